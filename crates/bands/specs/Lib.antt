@@ -1,0 +1,2 @@
+pub mod BandList
+pub mod Answers

@@ -1,0 +1,49 @@
+-- Laws of tests: and, or, and the two outcomes of a comparison for a proof by cases. Assumes nothing.
+use mathlib.Core.Path.{_≡_, refl}
+use mathlib.Core.Logic.{_⊎_, inl, inr}
+use mathlib.Core.Bool.{Bool, true, false, _&&_, _||_, true≢false}
+use Prim.Native.Nat.{ℕ, _≤_, _<_}
+use lib.Dec.{ltb, eqb}
+use borrow.Author.Tests.{ltb-true, ltb-false, eqb-true, eqb-false}
+
+pub and-false : (a : Bool) → (a && false) ≡ false
+and-false true = refl
+and-false false = refl
+
+pub or-false : (a : Bool) → (a || false) ≡ a
+or-false true = refl
+or-false false = refl
+
+pub or-true : (a : Bool) → (a || true) ≡ true
+or-true true = refl
+or-true false = refl
+
+-- neither of two holds, where one or the other does not
+pub neither : (a b : Bool) → (a || b) ≡ false → (a ≡ false) × (b ≡ false)
+neither true b e = absurd (true≢false e)
+neither false b e = (refl, e)
+
+abbrev pub Less : ℕ → ℕ → Type 0
+Less a b = ((a < b) × (ltb a b ≡ true)) ⊎ ((b ≤ a) × (ltb a b ≡ false))
+
+-- a comparison with what it says
+pub decide : (a b : ℕ) → Less a b
+decide a b = go (ltb a b) refl
+  where
+    go : (t : Bool) → ltb a b ≡ t → Less a b
+    go true e = inl (ltb-true a b e, e)
+    go false e = inr (ltb-false a b e, e)
+
+abbrev pub Same : ℕ → ℕ → Type 0
+Same a b = ((a ≡ b) × (eqb a b ≡ true)) ⊎ ((a ≡ b → ⊥) × (eqb a b ≡ false))
+
+pub decide-eq : (a b : ℕ) → Same a b
+decide-eq a b = go (eqb a b) refl
+  where
+    go : (t : Bool) → eqb a b ≡ t → Same a b
+    go true e = inl (eqb-true a b e, e)
+    go false e = inr (eqb-false a b e, e)
+
+pub decide-bool : (t : Bool) → (t ≡ true) ⊎ (t ≡ false)
+decide-bool true = inl refl
+decide-bool false = inr refl

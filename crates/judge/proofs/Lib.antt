@@ -1,0 +1,3 @@
+pub mod Glue
+pub mod Edges
+pub mod Counts

@@ -1,0 +1,4 @@
+pub mod RecordLaws
+pub mod PutLaws
+pub mod ChainLaws
+pub mod NotedLaws

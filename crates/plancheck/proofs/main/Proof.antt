@@ -1,0 +1,88 @@
+-- `plancheck::main` ends: what is left to read falls at each turn. Assumes nothing.
+use borrow.Author.Needs.{needs}
+use Rattle.plancheck.proofs.main.Statement.{statement}
+use Rattle.plancheck.proofs.main.Tie as tie
+use Rattle.plancheck.proofs.main.Reads as reads
+use Rattle.plancheck.proofs.main.Lts as lts
+use Rattle.io.proofs.large_buffer.Reads as large-buffer-reads
+use Rattle.io.proofs.read_full.Reads as read-full-reads
+use Rattle.io.proofs.write_all.Reads as write-all-reads
+use Rattle.plancheck.proofs.read_on.Reads as read-on-reads
+use Rattle.report.proofs.plan_line.Reads as plan-line-reads
+
+abbrev Inv-loop : tie.InvT-loop
+Inv-loop n len left₀ left = Unit {0}
+
+abbrev μ-loop : tie.MeasureT-loop
+μ-loop n len left₀ left = left
+
+large-buffer-requires : tie.Need-large-buffer-requires Inv-loop μ-loop
+large-buffer-requires c κs = search needs
+
+slice-aggregate-read-full : tie.Need-slice-aggregate-read-full Inv-loop μ-loop
+slice-aggregate-read-full c = search needs
+
+read-full-requires : tie.Need-read-full-requires Inv-loop μ-loop
+read-full-requires c κs = search needs
+
+array-share-prefix-buf : tie.Need-array-share-prefix-buf Inv-loop μ-loop
+array-share-prefix-buf c = search needs
+
+slice-aggregate-plan-line : tie.Need-slice-aggregate-plan-line Inv-loop μ-loop
+slice-aggregate-plan-line c = search needs
+
+plan-line-requires : tie.Need-plan-line-requires Inv-loop μ-loop
+plan-line-requires c κs = search needs
+
+array-share-prefix-text : tie.Need-array-share-prefix-text Inv-loop μ-loop
+array-share-prefix-text c = search needs
+
+slice-aggregate-write-all : tie.Need-slice-aggregate-write-all Inv-loop μ-loop
+slice-aggregate-write-all c = search needs
+
+write-all-requires : tie.Need-write-all-requires Inv-loop μ-loop
+write-all-requires c κs = search needs
+
+loop-holds : tie.Need-loop-holds Inv-loop μ-loop
+loop-holds c = tt
+
+read-on-requires : tie.Need-read-on-requires Inv-loop μ-loop
+read-on-requires c κs = search needs
+
+returns : tie.Need-returns Inv-loop μ-loop
+returns c = search needs
+
+sub-left : tie.Need-sub-left Inv-loop μ-loop
+sub-left c = search needs
+
+loop-less : tie.Need-loop-less Inv-loop μ-loop
+loop-less c = search needs
+
+loop-again : tie.Need-loop-again Inv-loop μ-loop
+loop-again c = tt
+
+returns-2 : tie.Need-returns-2 Inv-loop μ-loop
+returns-2 c = search needs
+
+pub main-spec : {M : Type 1} → statement M
+main-spec =
+    tie.close
+    (tie.spec
+    Inv-loop
+    μ-loop
+    large-buffer-requires
+    slice-aggregate-read-full
+    read-full-requires
+    array-share-prefix-buf
+    slice-aggregate-plan-line
+    plan-line-requires
+    array-share-prefix-text
+    slice-aggregate-write-all
+    write-all-requires
+    loop-holds
+    read-on-requires
+    returns
+    sub-left
+    loop-less
+    loop-again
+    returns-2)

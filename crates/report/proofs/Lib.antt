@@ -1,0 +1,4 @@
+pub mod Decimals
+pub mod Growth
+pub mod Examples
+pub mod PlanLines

@@ -1,0 +1,9 @@
+pub mod Device
+pub mod Plan
+pub mod Bands
+pub mod Roles
+pub mod Grounds
+pub mod Answers
+pub mod Computes
+pub mod Cases
+pub mod Fits

@@ -1,0 +1,92 @@
+// The rules of document 01 as definitions (specs/), the starred cases proved of them (proofs/), and the types that
+// definitions and code share: a device's sizes and the answers of the entries. Fields are spelled as in the definitions.
+ghost use mathlib.Core.Path.{_≡_};
+ghost use Rattle.rules.specs.Device.{khz50};
+
+// The sizes in which devices differ.
+pub struct Device {
+    // subcarriers are numbered from 0
+    pub subcarriers: usize,
+    // active subcarriers lie in lowActive to highActive
+    pub lowActive: usize,
+    pub highActive: usize,
+    // the lowest PLC subcarrier, L, lies in lowPlc to highPlc
+    pub lowPlc: usize,
+    pub highPlc: usize,
+    // depth M is 1 to depthMax
+    pub depthMax: usize,
+    // the PLC is plcWidth subcarriers from L on, in the centre of plcMargin more on either side
+    pub plcWidth: usize,
+    pub plcMargin: usize,
+    // of the predefined pilots, below L and above the PLC's last subcarrier
+    pub distances: [u16; 4],
+    // so many excluded in a row are an exclusion band
+    pub exclusionRun: usize,
+    // each band has at least width bandMin, and one bandWide
+    pub bandMin: usize,
+    pub bandWide: usize,
+    // a window of longWindow subcarriers has at most longMax excluded, one of shortWindow at most shortMax
+    pub longWindow: usize,
+    pub longMax: usize,
+    pub shortWindow: usize,
+    pub shortMax: usize,
+    // N_I is at most this
+    pub rankedMax: usize,
+}
+
+// What a look for grounds finds: nothing, or the number and place of one.
+pub enum Finding {
+    Fine,
+    Ground(u32, u32),
+}
+
+// The answer of the judge: accepted with N_I, or refused with number and place.
+pub enum Verdict {
+    Accepted(u32),
+    Refused(u32, u32),
+}
+
+pub enum Role {
+    Excluded,
+    Plc,
+    Continuous,
+    Scattered,
+    Data,
+}
+
+// The answer to what a subcarrier is at a phase: its role, or refused with number and place.
+pub enum RoleAnswer {
+    Is(Role),
+    Refused(u32, u32),
+}
+
+// The answer to how many: a count, or refused with number and place.
+pub enum CountAnswer {
+    Count(u32),
+    Refused(u32, u32),
+}
+
+// The 50 kHz device.
+pub fn khz50_device() -> Device
+    ensures { λ r. ⌜ r ≡ khz50 ⌝ }
+{
+    Device {
+        subcarriers: 4096,
+        lowActive: 148,
+        highActive: 3948,
+        lowPlc: 204,
+        highPlc: 3885,
+        depthMax: 32,
+        plcWidth: 8,
+        plcMargin: 56,
+        distances: [15, 24, 35, 47],
+        exclusionRun: 20,
+        bandMin: 40,
+        bandWide: 440,
+        longWindow: 120,
+        longMax: 6,
+        shortWindow: 20,
+        shortMax: 4,
+        rankedMax: 3745,
+    }
+}
