@@ -16,7 +16,7 @@ use Rattle.counting.proofs.Laws.{none-lowest}
 use Rattle.counting.proofs.Searches.{first-none, first-over, highest-at, lowest-at}
 use Rattle.rules.specs.declared.Device.{Device}
 use Rattle.rules.specs.Plan.{Plan}
-use Rattle.rules.specs.Bands.{excluded, active, runBelow, startsBand, nextBand, bandEnd, firstBand}
+use Rattle.rules.specs.Bands.{excluded, active, runBelow, exclusionBandBelow, startsBand, nextBand, bandEnd, firstBand}
 
 -- ---- runs below a subcarrier
 
@@ -57,16 +57,16 @@ module _ (d : Device) (p : Plan) where
   idle-at k e = ap (λ (b : Bool). ltb k (d .subcarriers) && not b) e ∙ and-false (ltb k (d .subcarriers))
 
   pub no-start : (k : ℕ) → excluded p k ≡ true → startsBand d p k ≡ false
-  unfolding startsBand
+  unfolding startsBand exclusionBandBelow
   no-start k e = ap (λ (b : Bool). b && (leb (d .exclusionRun) (runBelow p k) || eqb (runBelow p k) k)) (idle-at k e)
 
   pub short-start : (k : ℕ) → runBelow p k < d .exclusionRun → runBelow p k < k → startsBand d p k ≡ false
-  unfolding startsBand
+  unfolding startsBand exclusionBandBelow
   short-start k s l =
       ap₂ (λ (b c : Bool). active d p k && (b || c)) (lt-leb (d .exclusionRun) (runBelow p k) s) (ne-eqb (runBelow p k) k (λ e. omega arith)) ∙ and-false (active d p k)
 
   pub long-start : (k : ℕ) → k < d .subcarriers → excluded p k ≡ false → (d .exclusionRun ≤ runBelow p k) ⊎ (runBelow p k ≡ k) → startsBand d p k ≡ true
-  unfolding startsBand
+  unfolding startsBand exclusionBandBelow
   long-start k l e (inl h) = ap₂ (λ (b c : Bool). b && (c || eqb (runBelow p k) k)) (active-at k l e) (le-leb (d .exclusionRun) (runBelow p k) h)
   long-start k l e (inr h) =
       ap₂ (λ (b c : Bool). b && (leb (d .exclusionRun) (runBelow p k) || c)) (active-at k l e) (eq-eqb (runBelow p k) k h) ∙ or-true (leb (d .exclusionRun) (runBelow p k))

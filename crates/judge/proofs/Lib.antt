@@ -1,3 +1,4 @@
-pub mod Glue
 pub mod Edges
+pub mod Verdicts
+pub mod EntryAnswers
 pub mod Counts

@@ -9,7 +9,7 @@ use Rattle.rules.specs.declared.CountAnswer.the-variants as a-count
 use Rattle.rules.specs.Device.{khz50}
 use Rattle.rules.specs.Grounds.{verdict}
 use Rattle.rules.specs.Answers.{scatteredAnswer}
-use Rattle.judge.proofs.Glue.{count-left}
+use Rattle.judge.proofs.EntryAnswers.{count-left}
 use Rattle.report.specs.Text.{okLine, refusedLine}
 use Rattle.report.specs.PlanLine.{lineFor, planLine}
 

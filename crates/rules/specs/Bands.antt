@@ -17,10 +17,11 @@ any t (e ∷ es) = t e || any t es
 abbrev pub covers : ℕ → Entry → Bool
 covers k e = leb (e .low) k && leb k (e .high)
 
+-- subcarrier k is excluded: a kind 2 record on the chain covers it
 unfoldable pub excluded : Plan → ℕ → Bool
 excluded p k = any (covers k) (p .ranges)
 
--- the width of a band, and the span, from a to b
+-- the width of a band from a to b is b - a steps; so is the span from lowest to highest active subcarrier
 unfoldable pub width : ℕ → ℕ → ℕ
 width a b = b - a
 
@@ -38,15 +39,20 @@ module _ (d : Device) (p : Plan) where
   unfoldable pub active : ℕ → Bool
   active k = ltb k (d .subcarriers) && not (excluded p k)
 
-  -- A band starts at the active subcarrier a: the run right below it is an exclusion band, of 20 or more, or touching 0.
+  -- the run of excluded subcarriers that ends right below k is an exclusion band: 20 or more, or touching 0
+  unfoldable pub exclusionBandBelow : ℕ → Bool
+  exclusionBandBelow k = leb (d .exclusionRun) (runBelow p k) || eqb (runBelow p k) k
+
+  -- a band starts at the active subcarrier a, right above an exclusion band
   unfoldable pub startsBand : ℕ → Bool
-  startsBand a = active a && (leb (d .exclusionRun) (runBelow p a) || eqb (runBelow p a) a)
+  startsBand a = active a && exclusionBandBelow a
 
   -- where the band after the one that starts at a starts; past the last subcarrier, if there is none
   unfoldable pub nextBand : ℕ → ℕ
   nextBand a = Option·getD (lowest (λ k. ltb a k && startsBand k) (d .subcarriers)) (d .subcarriers)
 
-  -- the highest subcarrier of the band that starts at a: the highest active one below the next band
+  -- the highest subcarrier of the band that starts at a: the highest active one below the next band, or, of the last band, below the run
+  -- that touches the last subcarrier
   unfoldable pub bandEnd : ℕ → ℕ
   bandEnd a = Option·getD (highest active (nextBand a)) 0
 

@@ -11,6 +11,7 @@ use Rattle.rules.specs.Device.{phases}
 use Rattle.rules.specs.Plan.{Entry, Plan}
 use Rattle.rules.specs.Bands.{any, excluded, active}
 
+-- k is a number of the list
 unfoldable pub oneOf : ℕ → List ℕ → Bool
 oneOf k [] = false
 oneOf k (x ∷ xs) = eqb k x || oneOf k xs

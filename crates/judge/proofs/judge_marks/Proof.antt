@@ -7,7 +7,7 @@ use Rattle.rules.proofs.Sizes.{khz50-fits}
 use Rattle.rules.specs.Device.{khz50}
 use Rattle.rules.specs.Grounds.{verdict}
 use Rattle.judge.specs.Studied.{StudiedIf}
-use Rattle.judge.proofs.Glue.{marks-if}
+use Rattle.judge.proofs.Verdicts.{marks-if}
 use Rattle.judge.proofs.judge_marks.Statement.{statement}
 use Rattle.judge.proofs.judge_marks.Tie as tie
 use Rattle.judge.proofs.judge_marks.Reads as reads

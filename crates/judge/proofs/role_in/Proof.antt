@@ -5,7 +5,7 @@ use native.Mathlib.Omega.{arith}
 use Rattle.rules.specs.declared.RoleAnswer.the-variants.{Is}
 use Rattle.rules.specs.Plan.{planOf}
 use Rattle.rules.specs.Roles.{predefined}
-use Rattle.judge.proofs.Glue.{role-out-subcarrier, role-out-phase, role-is}
+use Rattle.judge.proofs.EntryAnswers.{role-out-subcarrier, role-out-phase, role-is}
 use Rattle.judge.proofs.role_in.Statement.{statement}
 use Rattle.judge.proofs.role_in.Tie as tie
 use Rattle.judge.proofs.role_in.Reads as reads

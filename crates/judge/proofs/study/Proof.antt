@@ -6,7 +6,7 @@ use lib.ListN.{replicate, length-replicate}
 use Rattle.ranges.proofs.NoteLaws.{table-zero, flags-zero, hit-zero}
 use Rattle.plan.specs.declared.Chain.{Chain}
 use Rattle.plan.specs.Noted.{findingOf, Filled}
-use Rattle.judge.proofs.Glue.{verdict-chain}
+use Rattle.judge.proofs.Verdicts.{verdict-chain}
 use Rattle.judge.proofs.study.Statement.{statement}
 use Rattle.judge.proofs.study.Tie as tie
 use Rattle.judge.proofs.study.Reads as reads

@@ -5,7 +5,7 @@ use Rattle.rules.specs.declared.Finding.{Finding}
 use Rattle.rules.specs.Plan.{planOf}
 use Rattle.marks.specs.Marked.{Ready, MarkedIf}
 use Rattle.judge.proofs.Edges.{ready, edges}
-use Rattle.judge.proofs.Glue.{verdict-early, verdict-late, studied-if}
+use Rattle.judge.proofs.Verdicts.{verdict-early, verdict-late, studied-if}
 use Rattle.judge.proofs.study_tables.Statement.{statement}
 use Rattle.judge.proofs.study_tables.Tie as tie
 use Rattle.judge.proofs.study_tables.Reads as reads
