@@ -3,7 +3,7 @@ use borrow.Author.Needs.{needs}
 use mathlib.Core.Path.{sym, _∙_, subst}
 use Rattle.rules.specs.declared.Finding.{Finding}
 use Rattle.rules.specs.Plan.{planOf}
-use Rattle.marks.specs.Marked.{Ready, MarkedIf}
+use Rattle.marks.specs.Marked.{Marked, MarkedIf, Ready}
 use Rattle.judge.proofs.Edges.{ready, edges}
 use Rattle.judge.proofs.Verdicts.{verdict-early, verdict-late, studied-if}
 use Rattle.judge.proofs.study_tables.Statement.{statement}
@@ -24,6 +24,15 @@ prepared c =
     let g = c .before .before .before .before .before .before .before .before in
     let r = c .before .before .before .before .runs in
     ready (g .args .d) (g .args .plan .now) (g .args .np) (g .args .reach .now) (g .args .hot .now) _ _ _ _ _ _ _ (g .pre .0) (g .pre .1) (r .ensures .0) (r .ensures .1) (r .ensures .2) (r .ensures .3) (c .before .before .before .number-at .ensures .0) (g .pre .3)
+
+-- the marks, where no ground of 6 to 8 was found
+passed : (c : tie.After-enum-told) →
+    let g = c .before .before .before .before .before .before .before .before .before .before .before in
+    Marked (g .args .d) (planOf (g .args .plan .now)) (c .before .before .grounds-6-to-8 .last .1 .1 .1 .1 .1 .1 .1 .1 .1 .0)
+passed c =
+    let g = c .before .before .before .before .before .before .before .before .before .before .before in
+    let r = c .before .before .grounds-6-to-8 in
+    subst (λ (f : Finding). MarkedIf f (g .args .d) (planOf (g .args .plan .now)) (r .last .1 .1 .1 .1 .1 .1 .1 .1 .1 .0)) (c .enum-told .given .1) (r .ensures .1)
 
 runs-requires : tie.Need-runs-requires
 runs-requires c κs = search needs
@@ -54,10 +63,8 @@ slice-aggregate-grounds-9-to-15-2 c = search needs
 
 grounds-9-to-15-requires : tie.Need-grounds-9-to-15-requires
 grounds-9-to-15-requires c κs =
-    let g = c .before .before .before .before .before .before .before .before .before .before .before .before .before .before in
-    let told = c .before .before .before .enum-told .given .1 in
-    let e = c .before .before .before .before .before .grounds-6-to-8 .ensures in
-    (g .pre .0, edges _ _ _ _ _ _ _ _ _ _ (prepared (c .before .before .before .before .before .before)) (sym told ∙ e .0), subst (λ (r : Finding). MarkedIf r (g .args .d) (planOf (g .args .plan .now)) (c .before .before .before .before .before .grounds-6-to-8 .last .1 .1 .1 .1 .1 .1 .1 .1 .1 .0)) told (e .1))
+    let told = c .before .before .before in
+    (c .before .before .before .before .before .before .before .before .before .before .before .before .before .before .pre .0, edges _ _ _ _ _ _ _ _ _ _ (prepared (c .before .before .before .before .before .before)) (sym (told .enum-told .given .1) ∙ told .before .before .grounds-6-to-8 .ensures .0), passed told)
 
 returns : tie.Need-returns
 returns c =
@@ -68,10 +75,13 @@ returns c =
 returns-2 : tie.Need-returns-2
 returns-2 c =
     let g = c .before .before .before .before .before .before .before .before .before .before .before .before .before .before .before in
-    let told = c .before .before .before .before .enum-told .given .1 in
-    let e = c .before .before .before .before .before .before .grounds-6-to-8 .ensures in
-    let marked = subst (λ (r : Finding). MarkedIf r (g .args .d) (planOf (g .args .plan .now)) (c .before .before .before .before .before .before .grounds-6-to-8 .last .1 .1 .1 .1 .1 .1 .1 .1 .1 .0)) told (e .1) in
-    (c .grounds-9-to-15 .ensures ∙ verdict-late (g .args .d) (g .args .plan .now) (g .pre .2) (sym told ∙ e .0), studied-if (c .grounds-9-to-15 .result) (g .args .d) (g .args .plan .now) (c .before .before .before .before .before .before .grounds-6-to-8 .last .1 .1 .1 .1 .1 .1 .1 .1 .1 .0) (record { long = g .pre .1 .long; plcLow = g .pre .1 .plcLow; plcHigh = g .pre .1 .plcHigh; marked = marked }), e .2)
+    let told = c .before .before .before .before in
+    let r = told .before .before .grounds-6-to-8 in
+    let w = g .pre .1 in (
+      c .grounds-9-to-15 .ensures ∙ verdict-late (g .args .d) (g .args .plan .now) (g .pre .2) (sym (told .enum-told .given .1) ∙ r .ensures .0),
+      studied-if (c .grounds-9-to-15 .result) (g .args .d) (g .args .plan .now) (r .last .1 .1 .1 .1 .1 .1 .1 .1 .1 .0) (record { long = w .long; plcLow = w .plcLow; plcHigh = w .plcHigh; marked = passed told }),
+      r .ensures .2,
+    )
 
 pub study-tables-spec : {M : Type 1} → statement M
 study-tables-spec =
