@@ -1,5 +1,6 @@
 // The judge of plans and what stands on it: the verdict, the marks of an accepted plan, the role of a subcarrier, and how many are
-// scattered. Every entry reads the plan bytes anew, changes nothing it is not said to write, and asks nothing of its caller.
+// scattered. The entries `judge`, `role` and `scattered_count` read the plan bytes anew, change nothing and ask nothing of their caller.
+// `study` and `judge_marks` are for the crates above: they ask for the array that they fill with marks.
 ghost use mathlib.Core.Path.{_≡_};
 ghost use lib.ListN.{length};
 ghost use Prim.Native.Nat.{_<_};
