@@ -1,5 +1,5 @@
 -- Laws of tests: and, or, and the two outcomes of a comparison for a proof by cases. Assumes nothing.
-use mathlib.Core.Path.{_≡_, refl}
+use mathlib.Core.Path.{_≡_, refl, sym, _∙_}
 use mathlib.Core.Logic.{_⊎_, inl, inr}
 use mathlib.Core.Bool.{Bool, true, false, _&&_, _||_, true≢false}
 use Prim.Native.Nat.{ℕ, _≤_, _<_}
@@ -47,3 +47,23 @@ decide-eq a b = go (eqb a b) refl
 pub decide-bool : (t : Bool) → (t ≡ true) ⊎ (t ≡ false)
 decide-bool true = inl refl
 decide-bool false = inr refl
+
+-- a test has come out one way or the other
+pub by-test {ℓ} : {P : Type ℓ} (b : Bool) → (b ≡ true → P) → (b ≡ false → P) → P
+by-test true f g = f refl
+by-test false f g = g refl
+
+-- a test has not come out both ways
+pub conflict : (b : Bool) → b ≡ true → b ≡ false → ⊥
+conflict b p q = true≢false (sym p ∙ q)
+
+pub and-left : (a b : Bool) → (a && b) ≡ true → a ≡ true
+and-left true b e = refl
+and-left false b e = e
+
+pub and-right : (a b : Bool) → (a && b) ≡ true → b ≡ true
+and-right true b e = e
+and-right false b e = absurd (conflict false e refl)
+
+pub and-intro : (a b : Bool) → a ≡ true → b ≡ true → (a && b) ≡ true
+and-intro a b p q = rw p q

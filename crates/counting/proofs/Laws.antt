@@ -10,22 +10,22 @@ use native.Mathlib.Omega.{arith}
 use native.Mathlib.Decide.{le-ind}
 use lib.Seq.{getD-at}
 use lib.ListN.{length, getD, length-append, List·getD-append}
-use Rattle.counting.specs.Search.{bit, count, when, orElse, first, lowest, keep, those}
+use Rattle.counting.specs.Search.{bit, sum, count, when, orElse, first, lowest, keep, those}
 
 -- the tests agree below n
 pub count-ext : (p q : ℕ → Bool) (n : ℕ) → ((k : ℕ) → k < n → p k ≡ q k) → count p n ≡ count q n
-unfolding count
+unfolding count sum
 count-ext p q zero h = refl
 count-ext p q (suc n) h = ap₂ (λ (x : ℕ) (b : Bool). x + bit b) (count-ext p q n (λ k l. h k (le-trans l (le-suc n)))) (h n (le-refl (suc n)))
 
 pub count-false : (n : ℕ) → count (λ k. false) n ≡ 0
-unfolding count
+unfolding count sum
 count-false zero = refl
 count-false (suc n) = ap (λ (x : ℕ). x + 0) (count-false n)
 
 -- a window: what passes below a + n, from what passes below a
 pub count-add : (p : ℕ → Bool) (a n : ℕ) → count p (a + n) ≡ count p a + count (λ i. p (a + i)) n
-unfolding count
+unfolding count sum
 count-add p a zero = ap (count p) (add-zero a) ∙ sym (add-zero (count p a))
 count-add p a (suc n) = rw add-suc (rw (count-add p a n) (omega arith))
 
@@ -34,7 +34,7 @@ bit-le true = le-refl 1
 bit-le false = zero-le
 
 pub count-le : (p : ℕ → Bool) (n : ℕ) → count p n ≤ n
-unfolding count
+unfolding count sum
 count-le p zero = zero-le
 count-le p (suc n) = omega (arith, count-le p n, bit-le (p n))
 
@@ -45,7 +45,7 @@ below-suc h = eq-or-lt-of-le (le-of-suc-le-suc h)
 -- the first passes at x alone, of what the second passes not
 pub count-insert : (p q : ℕ → Bool) (x n : ℕ) → x < n → p x ≡ true → q x ≡ false → ((k : ℕ) → k < n → (k ≡ x → ⊥) → p k ≡ q k)
     → count p n ≡ suc (count q n)
-unfolding count
+unfolding count sum
 count-insert p q x zero l e f h = absurd (not-suc-le-zero l)
 count-insert p q x (suc n) l e f h = go (below-suc l) (λ m. count-insert p q x n m e f (λ k w. h k (le-trans w (le-suc n))))
   where
@@ -61,13 +61,13 @@ bit-mono false b h = zero-le
 
 -- the second passes wherever the first does
 pub count-mono : (p q : ℕ → Bool) (n : ℕ) → ((k : ℕ) → k < n → p k ≡ true → q k ≡ true) → count p n ≤ count q n
-unfolding count
+unfolding count sum
 count-mono p q zero h = zero-le
 count-mono p q (suc n) h = omega (arith, count-mono p q n (λ k l. h k (le-trans l (le-suc n))), bit-mono (p n) (q n) (h n (le-refl (suc n))))
 
 -- and at x, where the first does not
 pub count-mono-lt : (p q : ℕ → Bool) (x n : ℕ) → x < n → p x ≡ false → q x ≡ true → ((k : ℕ) → k < n → p k ≡ true → q k ≡ true) → count p n < count q n
-unfolding count
+unfolding count sum
 count-mono-lt p q x zero l e f h = absurd (not-suc-le-zero l)
 count-mono-lt p q x (suc n) l e f h = go (below-suc l) (λ m. count-mono-lt p q x n m e f (λ k w. h k (le-trans w (le-suc n))))
   where
@@ -128,7 +128,7 @@ lowest-zero p = refl
 
 -- a k that passes is counted
 pub count-lt : (p : ℕ → Bool) (k n : ℕ) → k < n → p k ≡ true → count p k < count p n
-unfolding count
+unfolding count sum
 count-lt p k n l t = le-ind (λ (m : ℕ). count p k < count p m) (omega (arith, ap bit t)) (λ m _ h. omega arith) n l
 
 keep-append : (b : Bool) (k : ℕ) (xs ys : List ℕ) → keep b k (xs ++ ys) ≡ keep b k xs ++ ys
@@ -149,14 +149,14 @@ length-keep false k xs = omega arith
 
 -- N_I is the length of the list of ranked subcarriers
 pub length-those : (p : ℕ → Bool) (n : ℕ) → length (those p 0 n) ≡ count p n
-unfolding those count
+unfolding those count sum
 length-those p zero = refl
 length-those p (suc n) = ap length (those-suc p 0 n) ∙ length-append (those p 0 n) (keep (p (0 + n)) (0 + n) [])
     ∙ ap₂ _+_ (length-those p n) (length-keep (p (0 + n)) (0 + n) [] ∙ ap (λ (k : ℕ). 0 + bit (p k)) (zero-add n) ∙ zero-add (bit (p n)))
 
 -- the k that pass stand in the list at their ranks
 pub those-at : (p : ℕ → Bool) (n k : ℕ) → k < n → p k ≡ true → getD (those p 0 n) (count p k) 0 ≡ k
-unfolding count
+unfolding count sum
 those-at p zero k l t = absurd (not-suc-le-zero l)
 those-at p (suc n) k l t = ap (λ (xs : List ℕ). getD xs (count p k) 0) (those-suc p 0 n) ∙ go (below-suc l) (those-at p n k)
   where

@@ -7,7 +7,7 @@ use native.Mathlib.Nat.{le-refl, le-suc, le-trans}
 use native.Mathlib.Numerals.{add-one}
 use native.Mathlib.Omega.{arith}
 use native.Mathlib.Decide.{le-ind}
-use Rattle.counting.specs.Search.{bit, count, when, orElse, first, lowest, highest}
+use Rattle.counting.specs.Search.{bit, sum, count, when, orElse, first, lowest, highest}
 use Rattle.counting.proofs.Laws.{lowest-here, none-lowest, first-stays}
 use Rattle.counting.specs.Runs.{All, None}
 
@@ -57,18 +57,18 @@ pub lowest-at : (p : ℕ → Bool) (k n : ℕ) → k < n → p k ≡ true → No
 lowest-at p k n l t h = lowest-here p k n l (none-lowest p k (λ j w. h j (omega arith) w)) t
 
 pub count-up : (p : ℕ → Bool) (m n : ℕ) → m ≤ n → count p m ≤ count p n
-unfolding count
+unfolding count sum
 count-up p m n l = le-ind (λ (j : ℕ). count p m ≤ count p j) (le-refl (count p m)) (λ j w h. omega arith) n l
 
 pub count-all : (p : ℕ → Bool) (a b : ℕ) → a ≤ b → All p a b → count p b + a ≡ count p a + b
-unfolding count
+unfolding count sum
 count-all p a b l h = le-ind (λ (j : ℕ). All p a j → count p j + a ≡ count p a + j)
     (λ g. refl)
     (λ j w ih g. omega (arith, ih (λ k b' w'. g k b' (le-trans w' (le-suc j))), ap bit (g j w (le-refl (suc j)))))
     b l h
 
 pub count-no : (p : ℕ → Bool) (a b : ℕ) → a ≤ b → None p a b → count p b ≡ count p a
-unfolding count
+unfolding count sum
 count-no p a b l h = le-ind (λ (j : ℕ). None p a j → count p j ≡ count p a)
     (λ g. refl)
     (λ j w ih g. omega (arith, ih (λ k b' w'. g k b' (le-trans w' (le-suc j))), ap bit (g j w (le-refl (suc j)))))
@@ -76,7 +76,7 @@ count-no p a b l h = le-ind (λ (j : ℕ). None p a j → count p j ≡ count p 
 
 -- one more, as the code counts
 pub count-next : (p : ℕ → Bool) (k : ℕ) → p k ≡ true → count p (suc k) ≡ suc (count p k)
-unfolding count
+unfolding count sum
 count-next p k t = omega (arith, ap bit t)
 
 pub first-ext : (f g : ℕ → Option ℕ) (n : ℕ) → ((k : ℕ) → k < n → f k ≡ g k) → first f n ≡ first g n

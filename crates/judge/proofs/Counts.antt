@@ -4,7 +4,7 @@ use mathlib.Core.Bool.{Bool, true, false, not, _&&_}
 use Prim.Native.Nat.{ℕ, suc, _+_, _%_, _≤_, _<_}
 use native.Mathlib.Omega.{arith}
 use borrow.Author.Tests.{le-ltb, eq-eqb, ne-eqb}
-use Rattle.counting.specs.Search.{bit, count}
+use Rattle.counting.specs.Search.{bit, sum, count}
 use Rattle.counting.proofs.Bools.{and-false}
 use Rattle.counting.proofs.Laws.{count-le}
 use Rattle.counting.proofs.Searches.{count-no}
@@ -36,12 +36,12 @@ module _ (d : Device) (p : Plan) (j : ℕ) where
 
   -- none stands below the first
   pub none-below : count (scattered d p j) phaseStart ≡ 0
-  unfolding count
+  unfolding count sum
   none-below = count-no (scattered d p j) 0 phaseStart (omega arith) (λ k a b. miss k (λ e. omega arith))
 
   -- one step of 128
   pub step-on : (k : ℕ) → k % 128 ≡ phaseStart → (b : Bool) → ranked d p k ≡ b → count (scattered d p j) (k + 128) ≡ count (scattered d p j) k + bit b
-  unfolding count
+  unfolding count sum
   step-on k e b r = count-no (scattered d p j) (suc k) (k + 128) (omega arith) (λ i l w. miss i (λ f. omega arith)) ∙ ap (λ (x : Bool). count (scattered d p j) k + bit x) (here k e b r)
 
   -- past the last subcarrier there is none

@@ -35,4 +35,5 @@ khz50-fits = record {
   longMaxHigh = omega arith;
   shortHigh = omega arith;
   shortMaxHigh = omega arith;
+  rows = refl;
 }

@@ -1,6 +1,7 @@
 -- The starred cases of document 01, "Plan A and its neighbours", as one table. Proved in proofs/Starred.antt. Assumes nothing.
 use Prim.Native.Nat.{ℕ}
 use mathlib.Core.Path.{_≡_}
+use mathlib.Core.Bool.{true}
 use mathlib.Core.List.{List, [], _∷_, map}
 use Rattle.counting.specs.Search.{those}
 use Rattle.rules.specs.declared.Verdict.the-variants.{Accepted, Refused}
@@ -8,6 +9,7 @@ use Rattle.rules.specs.Device.{khz50}
 use Rattle.rules.specs.Plan.{Plan, planOf}
 use Rattle.rules.specs.Roles.{predefined, scattered, rankOf}
 use Rattle.rules.specs.Grounds.{verdict}
+use Rattle.rules.specs.Frame.{Frame, frameOf, cellRank, spot, sentPhase, held}
 
 -- L 972, M 4; 0 to 799 excluded; then another excluded range, and further records
 unfoldable pub planWith : List ℕ → List ℕ
@@ -36,6 +38,9 @@ A = planOf planA
 unfoldable pub scatteredA : ℕ → List ℕ
 scatteredA j = those (scattered khz50 A j) 0 4096
 
+unfoldable pub frameA : Frame
+frameA = frameOf khz50 A
+
 abbrev pub Starred : Type 0
 Starred =
     (verdict khz50 planA ≡ Accepted 425)
@@ -44,6 +49,8 @@ Starred =
     × (scatteredA 125 ≡ 849 ∷ 1105 ∷ 1233 ∷ [])
     × (scatteredA 14 ≡ 866 ∷ 1122 ∷ [])
     × (map (rankOf khz50 A) (852 ∷ 980 ∷ 1236 ∷ []) ≡ 52 ∷ 168 ∷ 420 ∷ [])
+    × (map (cellRank frameA) (0 ∷ 128 ∷ 256 ∷ 384 ∷ 64 ∷ 32 ∷ 1 ∷ []) ≡ 0 ∷ 1 ∷ 2 ∷ 3 ∷ 4 ∷ 7 ∷ 213 ∷ [])
+    × (spot frameA 1 ≡ 1029) × (held frameA 48 1 ≡ true) × (sentPhase frameA 48 1 ≡ 49)
     × (verdict khz50 [] ≡ Refused 1 0)
     × (verdict khz50 planTo1239 ≡ Refused 10 0)
     × (verdict khz50 planTo854 ≡ Refused 14 835)

@@ -33,3 +33,4 @@ pub record Fits (d : Device) : Type 0 where
   pub longMaxHigh : d .longMax ≤ limit
   pub shortHigh : d .shortWindow ≤ limit
   pub shortMaxHigh : d .shortMax ≤ limit
+  pub rows : d .rowBits ≡ 7  -- the order of the rows is a table of 128

@@ -4,6 +4,9 @@ pub mod Bands
 pub mod Roles
 pub mod Grounds
 pub mod Answers
+pub mod Frame
+pub mod Store
+pub mod Steps
 pub mod Computes
 pub mod Cases
 pub mod Fits

@@ -3,7 +3,7 @@ use Prim.Native.Nat.{ℕ, _+_, _-_, _%_}
 use mathlib.Core.Bool.{Bool, true, false, not, _&&_, _||_}
 use mathlib.Core.List.{List, [], _∷_, _++_, map, reverse}
 use lib.Dec.{leb, ltb, eqb}
-use Rattle.counting.specs.Search.{count, those, tabulate}
+use Rattle.counting.specs.Search.{count, tabulate}
 use Rattle.rules.specs.declared.Device.{Device}
 use Rattle.rules.specs.declared.Role.{Role}
 use Rattle.rules.specs.declared.Role.the-variants.{Excluded, Plc, Continuous, Scattered, Data}
@@ -70,10 +70,6 @@ module _ (d : Device) (p : Plan) where
   unfoldable pub rankedCount : ℕ
   rankedCount = count ranked (d .subcarriers)
 
-  -- the subcarriers of ranks 0, 1, .., N_I - 1, in rising order
-  unfoldable pub rankedList : List ℕ
-  rankedList = those ranked 0 (d .subcarriers)
-
   -- the rank of a subcarrier that has one
   unfoldable pub rankOf : ℕ → ℕ
   rankOf k = count ranked k
@@ -94,4 +90,4 @@ module _ (d : Device) (p : Plan) where
 
   -- the marks of all subcarriers
   unfoldable pub marks : List ℕ
-  marks = tabulate (d .subcarriers) mark
+  marks = tabulate mark (d .subcarriers)

@@ -32,6 +32,8 @@ pub struct Device {
     pub shortMax: usize,
     // N_I is at most this
     pub rankedMax: usize,
+    // the frequency rule reads 2^rowBits rows of cells
+    pub rowBits: usize,
 }
 
 // What a look for grounds finds: nothing, or the number and place of one.
@@ -66,6 +68,24 @@ pub enum CountAnswer {
     Refused(u32, u32),
 }
 
+// The state of an emitter: phase and row of its next step.
+pub struct EmitterState {
+    pub phase: u32,
+    pub row: u32,
+}
+
+// The answer of a fresh start: the state, or refused with number and place.
+pub enum StartAnswer {
+    Started(EmitterState),
+    Refused(u32, u32),
+}
+
+// The answer of an emit or flush step: sent with the next state, or refused with number, place and the state as it was given.
+pub enum SendAnswer {
+    Sent(EmitterState),
+    Refused(u32, u32, EmitterState),
+}
+
 // The 50 kHz device.
 pub fn khz50_device() -> Device
     ensures { λ r. ⌜ r ≡ khz50 ⌝ }
@@ -88,5 +108,6 @@ pub fn khz50_device() -> Device
         shortWindow: 20,
         shortMax: 4,
         rankedMax: 3745,
+        rowBits: 7,
     }
 }

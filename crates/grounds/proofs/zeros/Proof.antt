@@ -6,7 +6,7 @@ use native.Mathlib.Nat.{le-antisymm}
 use native.Mathlib.Numerals.{add-one}
 use native.Mathlib.Omega.{arith}
 use Prim.Native.Nat.{ℕ, _+_, _-_, _≤_}
-use Rattle.counting.specs.Search.{bit, count}
+use Rattle.counting.specs.Search.{bit, sum, count}
 use Rattle.counting.proofs.Laws.{count-le}
 use Rattle.grounds.specs.Order.{isZero}
 use Rattle.grounds.proofs.zeros.Statement.{statement}
@@ -22,11 +22,11 @@ abbrev μ-loop : tie.MeasureT-loop
 μ-loop m size n₀ k₀ n k = size - k
 
 count-suc : (p : ℕ → Bool) (k : ℕ) → count p (k + 1) ≡ count p k + bit (p k)
-unfolding count
+unfolding count sum
 count-suc p k = ap (count p) (add-one k)
 
 loop-holds : tie.Need-loop-holds Inv-loop μ-loop
-unfolding count
+unfolding count sum
 loop-holds c = (omega arith, refl)
 
 mul-one-more : tie.Need-mul-one-more Inv-loop μ-loop

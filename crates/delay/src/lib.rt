@@ -1,0 +1,1 @@
+// The delay: a ring of rows in a flat store.

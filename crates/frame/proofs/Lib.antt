@@ -1,0 +1,4 @@
+pub mod House
+pub mod Cells
+pub mod Some
+pub mod Counts
