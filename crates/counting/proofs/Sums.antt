@@ -12,11 +12,9 @@ use borrow.Author.Tests.{eq-eqb, ne-eqb}
 use Rattle.counting.specs.Search.{bit, pick, sum, count, when, orElse, highest, find}
 use Rattle.counting.proofs.Laws.{bit-le}
 
-
 pub bit-not : (b : Bool) → bit b + bit (not b) ≡ 1
 bit-not true = refl
 bit-not false = refl
-
 
 pub sum-cong : (f g : ℕ → ℕ) (n : ℕ) → ((i : ℕ) → i < n → f i ≡ g i) → sum f n ≡ sum g n
 unfolding sum
@@ -89,7 +87,6 @@ all-one f n h e p l = go (decLt 0 (f p))
     go : Dec (0 < f p) → 1 ≤ f p
     go (yes c) = c
     go (no c) = absurd (omega (arith, sum-lt f (λ i. 1) n h p l (omega arith), sum-const 1 n))
-
 
 -- those that pass and those that do not
 pub count-not : (t : ℕ → Bool) (n : ℕ) → count t n + count (λ i. not (t i)) n ≡ n

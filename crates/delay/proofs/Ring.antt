@@ -1,6 +1,6 @@
 -- The closed form of the ring of rows: what is sent, and when, for any delay function below m. Assumes nothing.
 use Prim.Native.Nat.{ℕ, zero, suc, _+_, _-_, _*_, _%_, _≤_, _<_, suc-le-suc}
-use mathlib.Core.Path.{_≡_, refl, sym, ap, _∙_}
+use mathlib.Core.Path.{_≡_, refl, ap, _∙_}
 use mathlib.Core.Logic.{_≢_, _⊎_, inl, inr}
 use mathlib.Core.List.{List, [], _∷_}
 use native.Mathlib.Nat.{mod-add-mod, mod-lt, mul-le-mul-right, eq-or-lt-of-le, add-mod-right, le-of-suc-le-suc, not-suc-le-zero, mod-eq-of-lt, add-zero, zero-mod}
@@ -11,7 +11,7 @@ use lib.ListN.{length, getD}
 use lib.Seq.{sets, length-sets}
 use lib.Dec.{ltb}
 use borrow.Author.Tests.{lt-ltb, le-ltb}
-use Rattle.counting.specs.Search.{pick, tabulate}
+use Rattle.counting.specs.Search.{pick}
 use Rattle.counting.proofs.Lists.{length-tabulate, getD-tabulate, getD-sets-before, getD-sets-after, getD-sets-in}
 use Rattle.counting.proofs.Orders.{same-mod}
 use Rattle.rules.specs.Store.{cellAt, putRow, nextRow, delayed}

@@ -1,4 +1,4 @@
--- What the walk leaves: grounds 1 to 5 from those of the chain, and the filled tables. Assumes nothing.
+-- What a chain with no ground says of its records, and what the walk leaves: grounds 1 to 5 from those of the chain, and the filled tables. Assumes nothing.
 use mathlib.Core.Path.{_≡_, refl, sym, ap, _∙_}
 use mathlib.Core.Bool.{Bool, true, false}
 use mathlib.Core.List.{List, [], _∷_, map}
@@ -13,13 +13,13 @@ use Rattle.counting.proofs.Lists.{append-nil}
 use Rattle.rules.specs.declared.Device.{Device}
 use Rattle.rules.specs.declared.Finding.{Finding}
 use Rattle.rules.specs.declared.Finding.the-variants.{Fine, Ground}
-use Rattle.rules.specs.Plan.{Entry, number, entry, leads, chain, chainFrom, only, isPilot, planOf}
+use Rattle.rules.specs.Plan.{Entry, number, entry, leads, chain, chainFrom, only, isPlc, isPilot, planOf}
 use Rattle.rules.specs.Bands.{any, excluded}
-use Rattle.rules.specs.Grounds.{_else_, ground?, badLength, recordGrounds, chainGrounds, grounds1to5}
+use Rattle.rules.specs.Grounds.{_else_, ground?, badLength, pilotsMax, recordGrounds, chainGrounds, grounds1to5}
 use Rattle.ranges.specs.Reach.{hit}
 use Rattle.plan.specs.Noted.{Noted}
 use Rattle.plan.specs.Walk.{Left}
-use Rattle.plan.proofs.RecordLaws.{both-fine, length-fine, fine-first, fine-plc, fine-pilot}
+use Rattle.plan.proofs.RecordLaws.{both-fine, length-fine, fine-first, fine-plc, fine-depth, fine-few, fine-pilot}
 
 -- ground 1, and past it
 pub bad-length : (d : Device) (s : List ℕ) → badLength s ≡ true → Ground 1 0 ≡ grounds1to5 d s
@@ -31,14 +31,36 @@ unfolding grounds1to5
 good-length d s e h = sym (ap (λ (b : Bool). ground? 1 (when b 0) else chainGrounds d (length s / 8) 0 (chain s)) e ∙ h)
 
 module _ (d : Device) where
-  -- the PLC of a chain with no ground
-  plc-in : (s : List ℕ) (r : ℕ) → 0 < r → chainGrounds d r 0 (chainFrom s r r 0) ≡ Fine → (d .lowPlc ≤ number s 4) × (number s 4 ≤ d .highPlc)
+  -- record 0 of a chain with no ground is of kind 1, and no ground holds in it
+  first-fine : (s : List ℕ) (r : ℕ) → 0 < r → chainGrounds d r 0 (chainFrom s r r 0) ≡ Fine → (recordGrounds d r 0 (entry s 0) ≡ Fine) × (isPlc (entry s 0) ≡ true)
   unfolding chainGrounds chainFrom entry
-  plc-in s zero l f = absurd (omega arith)
-  plc-in s (suc r) l f =
+  first-fine s zero l f = absurd (omega arith)
+  first-fine s (suc r) l f =
       let g : recordGrounds d (suc r) 0 (entry s 0) ≡ Fine =
       both-fine (recordGrounds d (suc r) 0 (entry s 0)) (chainGrounds d (suc r) (0 + bit (isPilot (entry s 0))) (elim (leads (suc r) 0 (entry s 0 .next)) [ true ↦ chainFrom s (suc r) r (entry s 0 .next) | false ↦ [] ])) f .0 in
-      fine-plc d (suc r) 0 (entry s 0) g (fine-first d (suc r) 0 (entry s 0) g refl)
+      (g, fine-first d (suc r) 0 (entry s 0) g refl)
+
+  -- the PLC of a chain with no ground
+  pub plc-in : (s : List ℕ) (r : ℕ) → 0 < r → chainGrounds d r 0 (chainFrom s r r 0) ≡ Fine → (d .lowPlc ≤ number s 4) × (number s 4 ≤ d .highPlc)
+  unfolding entry
+  plc-in s r l f = let g = first-fine s r l f in fine-plc d r 0 (entry s 0) (g .0) (g .1)
+
+  -- the depth of a chain with no ground
+  pub depth-in : (s : List ℕ) (r : ℕ) → 0 < r → chainGrounds d r 0 (chainFrom s r r 0) ≡ Fine → (0 < number s 6) × (number s 6 ≤ d .depthMax)
+  unfolding entry
+  depth-in s r l f = let g = first-fine s r l f in fine-depth d r 0 (entry s 0) (g .0) (g .1)
+
+  -- after n pilots, a chain with no ground has no more than are allowed
+  pub pilots-few : (r n : ℕ) (es : List Entry) → chainGrounds d r n es ≡ Fine → n ≤ pilotsMax → n + length (only isPilot es) ≤ pilotsMax
+  unfolding chainGrounds only
+  pilots-few r n [] f l = omega arith
+  pilots-few r n (e ∷ es) f l =
+      let two = both-fine (recordGrounds d r n e) (chainGrounds d r (n + bit (isPilot e)) es) f in
+      go (isPilot e) (pilots-few r (n + bit (isPilot e)) es (two .1) (fine-few d r n e (two .0) l))
+    where
+      go : (t : Bool) → n + bit t + length (only isPilot es) ≤ pilotsMax → n + length {A = Entry} (elim t [ true ↦ e ∷ only isPilot es | false ↦ only isPilot es ]) ≤ pilotsMax
+      go true h = omega arith
+      go false h = omega arith
 
   -- the pilots of a chain with no ground
   pilots-in : (r n : ℕ) (es : List Entry) → chainGrounds d r n es ≡ Fine → (q : ℕ) → q < length (map (λ (e : Entry). e .low) (only isPilot es)) → getD (map (λ (e : Entry). e .low) (only isPilot es)) q 0 < d .subcarriers

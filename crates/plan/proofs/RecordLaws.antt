@@ -98,11 +98,16 @@ module _ (d : Device) (r np : ℕ) (e : Entry) (f : recordGrounds d r np e ≡ F
   unfolding badNumbers
   kinds = none-of (isPlc e && plcOut) (isRange e && rangeOut) (isPilot e && leb (d .subcarriers) (e .low)) (all-fine .2)
 
+  plc-fine : isPlc e ≡ true → ((ltb (e .low) (d .lowPlc) || ltb (d .highPlc) (e .low)) ≡ false) × (ltb (e .high) 1 ≡ false) × (ltb (d .depthMax) (e .high) ≡ false)
+  plc-fine k = none-of (ltb (e .low) (d .lowPlc) || ltb (d .highPlc) (e .low)) (ltb (e .high) 1) (ltb (d .depthMax) (e .high)) (second (isPlc e) plcOut k (kinds .0))
+
   pub fine-plc : isPlc e ≡ true → (d .lowPlc ≤ e .low) × (e .low ≤ d .highPlc)
   fine-plc k =
-      let t = none-of (ltb (e .low) (d .lowPlc) || ltb (d .highPlc) (e .low)) (ltb (e .high) 1) (ltb (d .depthMax) (e .high)) (second (isPlc e) plcOut k (kinds .0)) in
-      let u = neither (ltb (e .low) (d .lowPlc)) (ltb (d .highPlc) (e .low)) (t .0) in
+      let u = neither (ltb (e .low) (d .lowPlc)) (ltb (d .highPlc) (e .low)) (plc-fine k .0) in
       (ltb-false _ _ (u .0), ltb-false _ _ (u .1))
+
+  pub fine-depth : isPlc e ≡ true → (0 < e .high) × (e .high ≤ d .depthMax)
+  fine-depth k = (ltb-false _ _ (plc-fine k .1), ltb-false _ _ (plc-fine k .2))
 
   pub fine-range : isRange e ≡ true → (e .low < e .high + 1) × (e .high + 1 ≤ d .subcarriers)
   fine-range k =

@@ -100,7 +100,7 @@ module _ (F : Frame) where
   unfoldable pub frameStart : ℕ → List ℕ → Starting
   frameStart j s =
       elim (ground16 j else ground? 17 (when (shortStore s) 0)) [
-        Fine ↦ starts (a-start.Started (record { phase = j; row = 0 })) (freshStore F j s)
+        | Fine ↦ starts (a-start.Started (record { phase = j; row = 0 })) (freshStore F j s)
         | Ground n place ↦ starts (a-start.Refused n place) s
       ]
 

@@ -1,0 +1,24 @@
+-- Input symbols from flags, one for each cell: 0 for a data cell, another number for a placeholder. Assumes nothing.
+use Prim.Native.Nat.{ℕ, _<_}
+use mathlib.Core.Path.{_≡_}
+use mathlib.Core.Bool.{Bool}
+use mathlib.Core.List.{List}
+use lib.Dec.{eqb}
+use lib.ListN.{getD}
+use Rattle.counting.specs.Search.{bit, pick, count}
+use Rattle.rules.specs.Frame.{Frame, cells, held, placeholder, filler}
+
+unfoldable pub isZero : List ℕ → ℕ → Bool
+isZero l k = eqb (getD l k 0) 0
+
+-- cell p of the input symbol of the data ds
+unfoldable pub dataCell : List ℕ → List ℕ → ℕ → ℕ
+dataCell flag ds p = pick (isZero flag p) (getD ds (count (isZero flag) p) 0) placeholder
+
+-- cell p of the input symbol of a flush
+unfoldable pub fillerCell : List ℕ → ℕ → ℕ
+fillerCell flag p = pick (isZero flag p) filler placeholder
+
+-- the flags are those of the placeholders at phase j
+abbrev pub Flagged : Frame → ℕ → List ℕ → Type 0
+Flagged F j flag = (p : ℕ) → p < cells F → getD flag p 0 ≡ bit (held F j p)

@@ -1,0 +1,201 @@
+-- The closed form of a run: the symbols sent from a fresh start are a function of the frame, the starting phase and the input alone. Assumes nothing.
+use Prim.Native.Nat.{ℕ, zero, suc, _+_, _-_, _*_, _%_, _/_, _≤_, _<_}
+use mathlib.Core.Path.{_≡_, refl, sym, ap, _∙_}
+use mathlib.Core.Logic.{by-cases}
+use mathlib.Core.List.{List, [], _∷_, _++_, map}
+use native.Mathlib.Nat.{mod-lt, mod-eq-of-lt, mod-add-mod, add-mod-right, le-of-suc-le-suc, not-suc-le-zero, add-zero}
+use native.Mathlib.Decide.{decLt}
+use native.Mathlib.Omega.{arith}
+use lib.Arith.{digits-div, digits-mod, digits-lt}
+use lib.ListN.{length, getD, replicate, length-replicate, getD-replicate, length-map, List·getD-append}
+use lib.Seq.{length-sets, ext-getD, getD-append-add}
+use Rattle.counting.specs.Search.{tabulate}
+use Rattle.counting.proofs.Lists.{length-tabulate, getD-tabulate, getD-sets-0, getD-map-in}
+use Rattle.rules.specs.declared.Finding.the-variants.{Fine}
+use Rattle.rules.specs.Frame.{Frame, cells, delay, nextPhase, phaseBack, Given, flush, inputCells, lineSymbol}
+use Rattle.rules.specs.Store.{cellAt, freshCell, freshStore}
+use Rattle.rules.specs.Steps.{Emitter, Send, givenGrounds, sendGrounds, nextState, sentStore, sentSymbol, frameStep}
+use Rattle.frame.specs.Counted.{phaseOf}
+use Rattle.frame.proofs.Cells.{Sound, length-input}
+use Rattle.delay.specs.Ring.{ringSent}
+use Rattle.delay.proofs.Ring.{late, early, length-ringSent, length-cells}
+use Rattle.runs.specs.Run.{input, sent}
+use Rattle.runs.proofs.Steps.{by-finding, fine-given, next, input-sent, input-ground, sent-symbol, sent-ground, FreshIn, freshEmitter}
+
+-- ---- a run is that of its accepted steps
+
+-- the input symbols of what accepted steps were given, from phase j on
+inputs : Frame → ℕ → List Given → List (List ℕ)
+inputs F j [] = []
+inputs F j (g ∷ gs) = inputCells F j g ∷ inputs F (nextPhase F j) gs
+
+length-inputs : (F : Frame) (j : ℕ) (gs : List Given) → length (inputs F j gs) ≡ length gs
+unfolding inputs
+length-inputs F j [] = refl
+length-inputs F j (g ∷ gs) = ap suc (length-inputs F (nextPhase F j) gs)
+
+-- the phase of a symbol, from the phase after the start's
+phase-next : (F : Frame) (j i : ℕ) → phaseOf F (nextPhase F j) i ≡ phaseOf F j (suc i)
+phase-next F j i = mod-add-mod (j + 1) (F .phases) i ∙ ap (λ (x : ℕ). x % F .phases) (let z : j + 1 + i ≡ j + suc i = omega arith in z)
+
+phase-first : (F : Frame) (j : ℕ) → j < F .phases → phaseOf F j 0 ≡ j
+phase-first F j h = rw (add-zero, mod-eq-of-lt h) refl
+
+next-in : (F : Frame) (j : ℕ) → j < F .phases → nextPhase F j < F .phases
+next-in F j h = mod-lt (j + 1) (omega arith)
+
+inputs-at : (F : Frame) (j : ℕ) (gs : List Given) → j < F .phases → (i : ℕ) → i < length gs → getD (inputs F j gs) i [] ≡ inputCells F (phaseOf F j i) (getD gs i flush)
+unfolding inputs
+inputs-at F j [] hj i h = absurd (not-suc-le-zero h)
+inputs-at F j (g ∷ gs) hj zero h = ap (λ (x : ℕ). inputCells F x g) (sym (phase-first F j hj))
+inputs-at F j (g ∷ gs) hj (suc i) h =
+    inputs-at F (nextPhase F j) gs (next-in F j hj) i (le-of-suc-le-suc h) ∙ ap (λ (x : ℕ). inputCells F x (getD gs i flush)) (phase-next F j i)
+
+-- the cells that accepted steps send, given gs
+ringOf : Frame → Emitter → List Given → List (List ℕ)
+ringOf F e gs = ringSent (F .depth) (cells F) (delay F) (e .state .row) (e .store) (inputs F (e .state .phase) gs)
+
+sent-ring : (F : Frame) (e : Emitter) (steps : List Send) → sent (frameStep F) e steps ≡ map (lineSymbol F) (ringOf F e (input (frameStep F) e steps))
+unfolding sent input ringOf ringSent inputs sentSymbol sentStore next nextState
+sent-ring F e [] = refl
+sent-ring F e (a ∷ rest) =
+    by-finding (sendGrounds F e a)
+    (λ h. rw (sent-symbol F e a rest h, input-sent F e a rest h, sent-ring F (next F e (a .given)) rest) refl)
+    (λ n place h. rw (sent-ground F e a rest n place h, input-ground F e a rest n place h) (sent-ring F e rest))
+
+-- each accepted step sends one symbol
+pub length-sent : (F : Frame) (e : Emitter) (steps : List Send) → length (sent (frameStep F) e steps) ≡ length (input (frameStep F) e steps)
+unfolding ringOf
+length-sent F e steps =
+    let gs : List Given = input (frameStep F) e steps in
+    ap length (sent-ring F e steps) ∙ length-map (ringOf F e gs) (lineSymbol F)
+    ∙ length-ringSent (F .depth) (cells F) (delay F) (e .state .row) (e .store) (inputs F (e .state .phase) gs)
+    ∙ length-inputs F (e .state .phase) gs
+
+-- ---- what the accepted steps were given
+
+-- no ground refuses any of gs at its phase, from phase j on
+abbrev pub AllFine : Frame → ℕ → List Given → Type 0
+AllFine F j gs = (i : ℕ) → i < length gs → givenGrounds F (phaseOf F j i) (getD gs i flush) ≡ Fine
+
+fine-cons : (F : Frame) (j : ℕ) (g : Given) (gs : List Given) → j < F .phases → givenGrounds F j g ≡ Fine → AllFine F (nextPhase F j) gs → AllFine F j (g ∷ gs)
+fine-cons F j g gs hj h hs zero l = ap (λ (x : ℕ). givenGrounds F x g) (phase-first F j hj) ∙ h
+fine-cons F j g gs hj h hs (suc i) l = ap (λ (x : ℕ). givenGrounds F x (getD gs i flush)) (sym (phase-next F j i)) ∙ hs i (le-of-suc-le-suc l)
+
+input-all : (F : Frame) (e : Emitter) (steps : List Send) → e .state .phase < F .phases → AllFine F (e .state .phase) (input (frameStep F) e steps)
+unfolding input next nextState
+input-all F e [] hj = λ i h. absurd (not-suc-le-zero h)
+input-all F e (a ∷ rest) hj =
+    by-finding (sendGrounds F e a)
+    (λ h. rw (input-sent F e a rest h)
+    (fine-cons F (e .state .phase) (a .given) (input (frameStep F) (next F e (a .given)) rest) hj (fine-given F e a h)
+    (input-all F (next F e (a .given)) rest (next-in F (e .state .phase) hj))))
+    (λ n place h. rw (input-ground F e a rest n place h) (input-all F e rest hj))
+
+-- ---- the closed form
+
+-- what the steps of a fresh emitter were given, those before the start counted as flushes: number M + k is the accepted step k
+unfoldable pub givenBefore : Frame → List Given → ℕ → Given
+givenBefore F gs k = getD (replicate (F .depth) flush ++ gs) k flush
+
+-- the cells of sent symbol i: cell p is that of the input symbol p mod M before
+unfoldable pub closedCells : Frame → ℕ → List Given → ℕ → List ℕ
+closedCells F j gs i =
+    tabulate (λ p. getD (inputCells F (phaseBack F (j + i) (delay F p)) (givenBefore F gs (i + F .depth - delay F p))) p 0) (cells F)
+
+-- the symbols that a run from a fresh start at phase j with the input gs sends
+unfoldable pub closedSent : Frame → ℕ → List Given → List (List ℕ)
+closedSent F j gs = tabulate (λ i. lineSymbol F (closedCells F j gs i)) (length gs)
+
+pub given-late : (F : Frame) (gs : List Given) (i : ℕ) → givenBefore F gs (F .depth + i) ≡ getD gs i flush
+unfolding givenBefore
+given-late F gs i =
+    ap (λ (n : ℕ). getD (replicate (F .depth) flush ++ gs) (n + i) flush) (sym (length-replicate (F .depth) flush))
+    ∙ getD-append-add (replicate (F .depth) flush) gs i flush
+
+pub given-early : (F : Frame) (gs : List Given) (i : ℕ) → i < F .depth → givenBefore F gs i ≡ flush
+unfolding givenBefore
+given-early F gs i h = List·getD-append (replicate (F .depth) flush) gs flush i (rw length-replicate h) ∙ getD-replicate (F .depth) i flush flush h
+
+pub delay-below : (F : Frame) → Sound F → (p : ℕ) → delay F p < F .depth
+delay-below F ok p = mod-lt p (ok .depth-pos)
+
+module _ (F : Frame) (ok : Sound F) (j : ℕ) (hj : j < F .phases) (lent : List ℕ) (fits : F .depth * cells F ≤ length lent) where
+  store-fits : F .depth * cells F ≤ length (freshStore F j lent)
+  unfolding freshStore
+  store-fits = rw length-sets fits
+
+  -- row k of the fresh store
+  fresh-at : (k p : ℕ) → 0 < k → k < F .depth → p < cells F
+      → cellAt (cells F) (freshStore F j lent) k p ≡ getD (inputCells F (phaseBack F j (F .depth - k)) flush) p 0
+  unfolding freshStore cellAt freshCell
+  fresh-at zero p z h hp = absurd (not-suc-le-zero z)
+  fresh-at (suc k) p z h hp =
+      let f : ℕ → ℕ = λ i. freshCell F j (i / cells F) (i % cells F) in
+      let l : suc k * cells F + p < F .depth * cells F = digits-lt h hp in
+      getD-sets-0 lent (tabulate f (F .depth * cells F)) 0 (suc k * cells F + p) (rw length-tabulate l) (rw length-tabulate fits)
+      ∙ getD-tabulate f (F .depth * cells F) 0 (suc k * cells F + p) l
+      ∙ rw (digits-div (suc k) hp, digits-mod (suc k) hp) refl
+
+  module _ (gs : List Given) where
+    ring : List (List ℕ)
+    ring = ringSent (F .depth) (cells F) (delay F) 0 (freshStore F j lent) (inputs F j gs)
+
+    lens : (i : ℕ) → i < length (inputs F j gs) → length (getD (inputs F j gs) i []) ≡ cells F
+    lens i h = ap length (inputs-at F j gs hj i (rw length-inputs at h)) ∙ length-input F (phaseOf F j i) (getD gs i flush)
+
+    cell-late : (i p : ℕ) → i < length gs → p < cells F → delay F p ≤ i
+        → getD (getD ring i []) p 0 ≡ getD (inputCells F (phaseBack F (j + i) (delay F p)) (givenBefore F gs (i + F .depth - delay F p))) p 0
+    unfolding ring
+    cell-late i p hi hp h =
+        let e : i + F .depth - delay F p ≡ F .depth + (i - delay F p) = omega arith in
+        let w : j + i + (F .phases - delay F p) ≡ j + (i - delay F p) + F .phases = omega (arith, delay-below F ok p, ok .depth-le) in
+        late (F .depth) (cells F) (ok .depth-pos) (delay F) (delay-below F ok) (freshStore F j lent) (inputs F j gs) store-fits lens i p (rw length-inputs hi) hp h
+        ∙ rw (inputs-at F j gs hj (i - delay F p) (omega arith), e, given-late F gs (i - delay F p), w, add-mod-right) refl
+
+    cell-early : (i p : ℕ) → i < length gs → p < cells F → i < delay F p
+        → getD (getD ring i []) p 0 ≡ getD (inputCells F (phaseBack F (j + i) (delay F p)) (givenBefore F gs (i + F .depth - delay F p))) p 0
+    unfolding ring
+    cell-early i p hi hp h =
+        let k : ℕ = i + F .depth - delay F p in
+        let b : k < F .depth = omega (arith, delay-below F ok p) in
+        let w : j + (F .phases - (F .depth - k)) ≡ j + i + (F .phases - delay F p) = omega (arith, delay-below F ok p, ok .depth-le) in
+        early (F .depth) (cells F) (ok .depth-pos) (delay F) (delay-below F ok) (freshStore F j lent) (inputs F j gs) store-fits lens i p (rw length-inputs hi) hp h
+        ∙ fresh-at k p (omega (arith, delay-below F ok p)) b hp
+        ∙ rw (given-early F gs k b, w) refl
+
+    ring-closed : (i : ℕ) → i < length gs → getD ring i [] ≡ closedCells F j gs i
+    unfolding ring closedCells
+    ring-closed i hi =
+        let n : length (getD ring i []) ≡ cells F = length-cells (F .depth) (cells F) (delay F) 0 (freshStore F j lent) (inputs F j gs) i (rw length-inputs hi) in
+        ext-getD 0 (getD ring i []) (closedCells F j gs i) (n ∙ sym (length-tabulate _ (cells F)))
+        (λ p hp′.
+        let hp : p < cells F = rw n at hp′ in
+        by-cases (decLt i (delay F p)) (λ c. cell-early i p hi hp c) (λ c. cell-late i p hi hp (omega arith))
+        ∙ sym (getD-tabulate _ (cells F) 0 p hp))
+
+    length-ring : length ring ≡ length gs
+    unfolding ring
+    length-ring = length-ringSent (F .depth) (cells F) (delay F) 0 (freshStore F j lent) (inputs F j gs) ∙ length-inputs F j gs
+
+    ring-sent : map (lineSymbol F) ring ≡ closedSent F j gs
+    unfolding closedSent
+    ring-sent =
+        let n : length (map (lineSymbol F) ring) ≡ length gs = length-map ring (lineSymbol F) ∙ length-ring in
+        ext-getD [] (map (lineSymbol F) ring) (closedSent F j gs) (n ∙ sym (length-tabulate _ (length gs)))
+        (λ i hi.
+        let hi′ : i < length gs = rw n at hi in
+        getD-map-in (lineSymbol F) ring i [] [] (rw length-ring hi′) ∙ ap (lineSymbol F) (ring-closed i hi′) ∙ sym (getD-tabulate _ (length gs) [] i hi′))
+
+  fresh-closed : (steps : List Send) → sent (frameStep F) (freshEmitter F j lent) steps ≡ closedSent F j (input (frameStep F) (freshEmitter F j lent) steps)
+  unfolding freshEmitter ring ringOf
+  fresh-closed steps = sent-ring F (freshEmitter F j lent) steps ∙ ring-sent (input (frameStep F) (freshEmitter F j lent) steps)
+
+-- a run from a fresh start: what it sends, and that no ground refuses what it was given
+module _ (F : Frame) (j : ℕ) (e : Emitter) (fresh : FreshIn F j e) (steps : List Send) where
+  pub sent-closed : Sound F → sent (frameStep F) e steps ≡ closedSent F j (input (frameStep F) e steps)
+  sent-closed ok = rw (fresh .is-fresh) (fresh-closed F ok j (fresh .phase-in) (fresh .lent) (fresh .fits) steps)
+
+  pub input-fine : AllFine F j (input (frameStep F) e steps)
+  unfolding freshEmitter
+  input-fine = rw (fresh .is-fresh) (input-all F (freshEmitter F j (fresh .lent)) steps (fresh .phase-in))

@@ -1,0 +1,174 @@
+-- A step under an accepted plan: it is sent exactly if no ground refuses it, and else changes nothing; and what a fresh start leaves. Assumes nothing.
+use Prim.Native.Nat.{ℕ, _*_, _≤_, _<_}
+use mathlib.Core.Path.{_≡_, refl, sym, ap, _∙_}
+use mathlib.Core.Logic.{_↔_}
+use mathlib.Core.Bool.{Bool, true, false, not, false≢true}
+use mathlib.Core.Option.{Option, none, some}
+use mathlib.Core.List.{List, _∷_}
+use lib.Dec.{ltb, eqb}
+use lib.ListN.{length, getD, length-replicate}
+use borrow.Author.Tests.{ltb-false, leb-false, eqb-true, not-false}
+use Rattle.counting.specs.Search.{when, lowest}
+use Rattle.counting.proofs.Laws.{lowest-none}
+use Rattle.rules.specs.declared.Device.{Device}
+use Rattle.rules.specs.declared.Finding.{Finding}
+use Rattle.rules.specs.declared.Finding.the-variants.{Fine, Ground}
+use Rattle.rules.specs.declared.StartAnswer.{StartAnswer}
+use Rattle.rules.specs.declared.StartAnswer.the-variants as a-start
+use Rattle.rules.specs.Plan.{planOf}
+use Rattle.rules.specs.Grounds.{_else_, ground?, grounds1to15}
+use Rattle.rules.specs.Frame.{Frame, frameOf, cells, dataCount, Given, flush, symbol, dataList, filler, topData}
+use Rattle.rules.specs.Store.{freshStore}
+use Rattle.rules.specs.Steps.{Emitter, Send, Sending, Starting, starts, refused, ground16, shortStore, stateGround16, ground17, givenGrounds, sendGrounds, nextState, sentStore, sentSymbol, accepted, frameStep, frameStart, sendStep, startStep}
+use Rattle.plan.proofs.RecordLaws.{not-fine, both-fine}
+use Rattle.facts.proofs.Accepted.{when-fine}
+use Rattle.runs.specs.Run.{isSent, stateOf, after, input, sent, Fresh}
+
+-- ---- findings
+
+-- a ground that is not found has no place
+no-place : (n : ℕ) (o : Option ℕ) → ground? n o ≡ Fine → o ≡ none
+no-place n none e = refl
+no-place n (some place) e = absurd (not-fine e)
+
+-- nothing was found, or a ground
+pub by-finding {ℓ} : {P : Type ℓ} (f : Finding) → (f ≡ Fine → P) → ((n place : ℕ) → f ≡ Ground n place → P) → P
+by-finding Fine a b = a refl
+by-finding (Ground n place) a b = b n place refl
+
+-- ---- what was given to an accepted step
+
+module _ (F : Frame) (j : ℕ) where
+  pub given-length : (ds : List ℕ) → givenGrounds F j (symbol ds) ≡ Fine → length ds ≡ dataCount F j
+  unfolding givenGrounds
+  given-length ds e =
+      eqb-true (length ds) (dataCount F j)
+      (not-false _ (when-fine 18 0 _ (both-fine _ (ground? 19 (lowest (λ i. ltb topData (getD ds i 0)) (length ds))) e .0)))
+
+  pub given-data : (ds : List ℕ) → givenGrounds F j (symbol ds) ≡ Fine → (c : ℕ) → c < length ds → getD ds c 0 ≤ topData
+  unfolding givenGrounds
+  given-data ds e c h =
+      ltb-false topData (getD ds c 0)
+      (lowest-none (λ i. ltb topData (getD ds i 0)) (length ds)
+      (no-place 19 _ (both-fine (ground? 18 (when (not (eqb (length ds) (dataCount F j))) 0)) _ e .1)) c h)
+
+  pub list-length : (g : Given) → givenGrounds F j g ≡ Fine → length (dataList F j g) ≡ dataCount F j
+  unfolding dataList
+  list-length flush e = length-replicate (dataCount F j) filler
+  list-length (symbol ds) e = given-length ds e
+
+-- ---- one step
+
+-- the emitter after an accepted step
+unfoldable pub next : Frame → Emitter → Given → Emitter
+next F e g = record { state = nextState F (e .state); store = sentStore F e g }
+
+module _ (F : Frame) (e : Emitter) (a : Send) where
+  pub fine-given : sendGrounds F e a ≡ Fine → givenGrounds F (e .state .phase) (a .given) ≡ Fine
+  unfolding sendGrounds
+  fine-given h = both-fine (ground17 F (e .store) (a .room)) _ (both-fine (stateGround16 F (e .state)) _ h .1) .1
+
+  pub step-fine : sendGrounds F e a ≡ Fine → frameStep F e a ≡ accepted F e (a .given)
+  unfolding frameStep
+  step-fine h = ap (λ (f : Finding). elim f [ Fine ↦ accepted F e (a .given) | Ground n place ↦ refused e a n place ]) h
+
+  pub step-ground : (n place : ℕ) → sendGrounds F e a ≡ Ground n place → frameStep F e a ≡ refused e a n place
+  unfolding frameStep
+  step-ground n place h = ap (λ (f : Finding). elim f [ Fine ↦ accepted F e (a .given) | Ground n place ↦ refused e a n place ]) h
+
+  -- a step is sent exactly if no ground refuses it
+  pub sent-fine : (isSent (frameStep F e a .answer) ≡ true) ↔ (sendGrounds F e a ≡ Fine)
+  unfolding accepted
+  sent-fine = (
+    λ t. by-finding (sendGrounds F e a) (λ h. h)
+        (λ n place h. absurd (false≢true (sym (ap (λ (r : Sending). isSent (r .answer)) (step-ground n place h)) ∙ t))),
+    λ h. ap (λ (r : Sending). isSent (r .answer)) (step-fine h),
+  )
+
+  -- a refused step leaves the store, the lent symbol and the state as they were
+  pub unchanged : (isSent (frameStep F e a .answer) ≡ false)
+      → (stateOf (frameStep F e a .answer) ≡ e .state) × (frameStep F e a .store ≡ e .store) × (frameStep F e a .symbol ≡ a .room)
+  unfolding accepted
+  unchanged t =
+      by-finding (sendGrounds F e a)
+      (λ h. absurd (false≢true (sym t ∙ ap (λ (r : Sending). isSent (r .answer)) (step-fine h))))
+      (λ n place h.
+      let s : frameStep F e a ≡ refused e a n place = step-ground n place h in
+      (ap (λ (r : Sending). stateOf (r .answer)) s, ap (λ (r : Sending). r .store) s, ap (λ (r : Sending). r .symbol) s))
+
+  module _ (rest : List Send) where
+    pub input-sent : sendGrounds F e a ≡ Fine → input (frameStep F) e (a ∷ rest) ≡ a .given ∷ input (frameStep F) (next F e (a .given)) rest
+    unfolding input after accepted next
+    input-sent h = rw (step-fine h) refl
+
+    pub input-ground : (n place : ℕ) → sendGrounds F e a ≡ Ground n place → input (frameStep F) e (a ∷ rest) ≡ input (frameStep F) e rest
+    unfolding input after
+    input-ground n place h = rw (step-ground n place h) refl
+
+    pub sent-symbol : sendGrounds F e a ≡ Fine → sent (frameStep F) e (a ∷ rest) ≡ sentSymbol F e (a .given) ∷ sent (frameStep F) (next F e (a .given)) rest
+    unfolding sent after accepted next
+    sent-symbol h = rw (step-fine h) refl
+
+    pub sent-ground : (n place : ℕ) → sendGrounds F e a ≡ Ground n place → sent (frameStep F) e (a ∷ rest) ≡ sent (frameStep F) e rest
+    unfolding sent after
+    sent-ground n place h = rw (step-ground n place h) refl
+
+-- ---- a fresh start
+
+-- the emitter that a fresh start at phase j leaves in the lent store
+unfoldable pub freshEmitter : Frame → ℕ → List ℕ → Emitter
+freshEmitter F j lent = record { state = record { phase = j; row = 0 }; store = freshStore F j lent }
+
+-- e is one, in a store that is long enough
+pub record FreshIn (F : Frame) (j : ℕ) (e : Emitter) : Type 0 where
+  pub lent : List ℕ
+  pub phase-in : j < F .phases
+  pub fits : F .depth * cells F ≤ length lent
+  pub is-fresh : e ≡ freshEmitter F j lent
+
+phaseIn : StartAnswer → ℕ
+phaseIn (a-start.Started e) = e .phase
+phaseIn (a-start.Refused n place) = 0
+
+rowIn : StartAnswer → ℕ
+rowIn (a-start.Started e) = e .row
+rowIn (a-start.Refused n place) = 0
+
+isStarted : StartAnswer → Bool
+isStarted (a-start.Started e) = true
+isStarted (a-start.Refused n place) = false
+
+started : (F : Frame) (j : ℕ) (lent : List ℕ) (e : Emitter) → frameStart F j lent ≡ starts (a-start.Started (e .state)) (e .store) → FreshIn F j e
+unfolding frameStart ground16 shortStore phaseIn rowIn isStarted freshEmitter
+started F j lent e s =
+    let store : List ℕ = freshStore F j lent in
+    let leaves : Finding → Starting =
+    λ f. elim f [ Fine ↦ starts (a-start.Started (record { phase = j; row = 0 })) store | Ground n place ↦ starts (a-start.Refused n place) lent ] in
+    let long : Finding = ground? 17 (when (shortStore F lent) 0) in
+    by-finding (ground16 F j else long)
+    (λ h.
+    let r : starts (a-start.Started (record { phase = j; row = 0 })) store ≡ starts (a-start.Started (e .state)) (e .store) = sym (ap leaves h) ∙ s in
+    record {
+      lent = lent;
+      phase-in = leb-false _ _ (when-fine 16 0 _ (both-fine _ long h .0));
+      fits = ltb-false _ _ (when-fine 17 0 _ (both-fine (ground16 F j) long h .1));
+      is-fresh = λ i. record {
+        state = record { phase = sym (ap (λ (x : Starting). phaseIn (x .answer)) r) i; row = sym (ap (λ (x : Starting). rowIn (x .answer)) r) i };
+        store = sym (ap (λ (x : Starting). x .store) r) i;
+      };
+    })
+    (λ n place h. absurd (false≢true (ap (λ (x : Starting). isStarted (x .answer)) (sym (ap leaves h) ∙ s))))
+
+-- ---- a plan's bytes that no ground of 1 to 15 refuses
+
+module _ (d : Device) (s : List ℕ) (fine : grounds1to15 d s ≡ Fine) where
+  -- its steps are those of its frame
+  pub frame-steps : sendStep d s ≡ frameStep (frameOf d (planOf s))
+  unfolding sendStep
+  frame-steps = λ i e a. elim (fine i) [ Fine ↦ frameStep (frameOf d (planOf s)) e a | Ground n place ↦ refused e a n place ]
+
+  pub fresh-in : (j : ℕ) (e : Emitter) → Fresh d s j e → FreshIn (frameOf d (planOf s)) j e
+  unfolding startStep
+  fresh-in j e f =
+      let left : Finding → Starting = λ x. elim x [ Fine ↦ frameStart (frameOf d (planOf s)) j (f .lent) | Ground n place ↦ starts (a-start.Refused n place) (f .lent) ] in
+      started (frameOf d (planOf s)) j (f .lent) e (sym (ap left fine) ∙ f .start)
