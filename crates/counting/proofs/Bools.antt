@@ -4,7 +4,7 @@ use mathlib.Core.Logic.{_⊎_, inl, inr}
 use mathlib.Core.Bool.{Bool, true, false, _&&_, _||_, true≢false}
 use Prim.Native.Nat.{ℕ, _≤_, _<_}
 use lib.Dec.{ltb, eqb}
-use borrow.Author.Tests.{ltb-true, ltb-false, eqb-true, eqb-false}
+use borrow.Author.Tests.{ltb-true, ltb-false, eqb-true, eqb-false, eq-eqb, ne-eqb}
 
 pub and-false : (a : Bool) → (a && false) ≡ false
 and-false true = refl
@@ -67,3 +67,9 @@ and-right false b e = absurd (conflict false e refl)
 
 pub and-intro : (a b : Bool) → a ≡ true → b ≡ true → (a && b) ≡ true
 and-intro a b p q = rw p q
+
+pub eqb-sym : (a b : ℕ) → eqb a b ≡ eqb b a
+eqb-sym a b =
+    by-test (eqb b a)
+    (λ e. eq-eqb a b (sym (eqb-true b a e)) ∙ sym e)
+    (λ e. ne-eqb a b (λ z. conflict (eqb b a) (eq-eqb b a (sym z)) e) ∙ sym e)

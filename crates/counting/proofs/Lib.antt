@@ -1,6 +1,7 @@
 pub mod Bools
 pub mod Laws
 pub mod Searches
+pub mod Findings
 pub mod Lists
 pub mod Sums
 pub mod Select

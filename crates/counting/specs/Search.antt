@@ -81,3 +81,7 @@ rank key n q = count (λ k. ltb (key k) (key q)) n
 -- the number below n that has the rank r
 unfoldable pub ofRank : (ℕ → ℕ) → ℕ → ℕ → ℕ
 ofRank key n r = find (λ q. eqb (rank key n q) r) n
+
+-- the list has 0 at place k
+unfoldable pub isZero : List ℕ → ℕ → Bool
+isZero l k = eqb (getD l k 0) 0

@@ -17,7 +17,7 @@ use Rattle.rules.specs.Bands.{active, width, startsBand, nextBand, bandEnd, fir
 use Rattle.rules.specs.Grounds.{_else_, ground?, outside, aroundPlc, pilotClash, narrowBand, noWideBand, muchExcluded, muchInBand, fullWindow, manyRanked, grounds6to15}
 use Rattle.plan.proofs.RecordLaws.{both-fine}
 use Rattle.facts.proofs.Accepted.{when-fine, ground-none}
-use Rattle.facts.proofs.Found.{when-none, when-some, first-passed, first-found, highest-passes}
+use Rattle.counting.proofs.Findings.{when-none, when-some, first-passed, first-found, highest-passes}
 
 -- grounds 10 and 13 of 6 to 15
 ten-thirteen : (six seven eight nine ten eleven twelve thirteen later : Finding)

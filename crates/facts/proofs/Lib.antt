@@ -1,7 +1,6 @@
 pub mod Accepted
 pub mod Scattered
 pub mod Framed
-pub mod Found
 pub mod Bands
 pub mod Few
 pub mod Unranked

@@ -4,21 +4,14 @@ use mathlib.Core.Path.{_≡_, sym, ap, _∙_}
 use native.Mathlib.Nat.{add-comm, add-assoc}
 use native.Mathlib.Omega.{arith}
 use lib.Dec.{eqb}
-use borrow.Author.Tests.{eqb-true, eq-eqb, ne-eqb}
 use Rattle.counting.specs.Search.{bit, sum, count}
-use Rattle.counting.proofs.Bools.{by-test, conflict}
+use Rattle.counting.proofs.Bools.{eqb-sym}
 use Rattle.counting.proofs.Sums.{sum-cong, sum-blocks, count-eq}
 use Rattle.counting.proofs.Orders.{sum-turn}
 use Rattle.rules.specs.declared.Device.{Device}
 use Rattle.rules.specs.Device.{phases}
 use Rattle.rules.specs.Plan.{Plan}
 use Rattle.rules.specs.Roles.{scatteredAt}
-
-pub eqb-sym : (a b : ℕ) → eqb a b ≡ eqb b a
-eqb-sym a b =
-    by-test (eqb b a)
-    (λ e. eq-eqb a b (sym (eqb-true b a e)) ∙ sym e)
-    (λ e. ne-eqb a b (λ z. conflict (eqb b a) (eq-eqb b a (sym z)) e) ∙ sym e)
 
 -- of 128 successive numbers one has the remainder r
 residue-once : (a r : ℕ) → r < phases → sum (λ i. bit (eqb ((a + i) % phases) r)) phases ≡ 1

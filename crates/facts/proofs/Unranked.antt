@@ -12,7 +12,7 @@ use Rattle.rules.specs.declared.Device.{Device}
 use Rattle.rules.specs.Plan.{Entry, Plan}
 use Rattle.rules.specs.Bands.{any, excluded, active, excludedIn}
 use Rattle.rules.specs.Roles.{oneOf, predefined, names, inPlc, continuous, ranked}
-use Rattle.facts.proofs.Scattered.{eqb-sym}
+use Rattle.counting.proofs.Bools.{eqb-sym}
 use Rattle.facts.proofs.Few.{count-members, count-range}
 
 -- the numbers that kind 3 records name

@@ -10,11 +10,11 @@ use native.Mathlib.Omega.{arith}
 use lib.ListN.{length, getD, set, length-set}
 use lib.Seq.{getD-set-same, getD-set-other}
 use borrow.Author.Tests.{eq-eqb, ne-eqb}
-use Rattle.counting.specs.Search.{bit, sum, count, tabulate}
+use Rattle.counting.specs.Search.{bit, sum, count, tabulate, isZero}
 use Rattle.counting.proofs.Laws.{count-lt}
 use Rattle.counting.proofs.Lists.{is-tabulate}
 use Rattle.rules.specs.Frame.{placeholder, filler}
-use Rattle.fill.specs.Flags.{isZero, dataCell, fillerCell}
+use Rattle.fill.specs.Flags.{dataCell, fillerCell}
 
 -- a row of n cells: those below p follow the rule f
 pub record Filled (n p : ℕ) (f : ℕ → ℕ) (row : List ℕ) : Type 0 where

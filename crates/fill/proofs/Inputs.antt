@@ -5,12 +5,12 @@ use mathlib.Core.Bool.{Bool, true, false, not}
 use mathlib.Core.List.{List}
 use native.Mathlib.Omega.{arith}
 use lib.ListN.{getD, replicate, getD-replicate}
-use Rattle.counting.specs.Search.{bit, pick, count, tabulate}
+use Rattle.counting.specs.Search.{bit, pick, count, tabulate, isZero}
 use Rattle.counting.proofs.Bools.{by-test}
 use Rattle.counting.proofs.Laws.{count-ext, count-lt}
 use Rattle.counting.proofs.Lists.{tabulate-cong}
 use Rattle.rules.specs.Frame.{Frame, cells, held, isData, dataCount, dataList, inputCells, flush, symbol, placeholder, filler}
-use Rattle.fill.specs.Flags.{isZero, dataCell, fillerCell, Flagged}
+use Rattle.fill.specs.Flags.{dataCell, fillerCell, Flagged}
 
 bit-isZero : (l : List ℕ) (p : ℕ) (b : Bool) → getD l p 0 ≡ bit b → isZero l p ≡ not b
 unfolding isZero

@@ -1,15 +1,10 @@
 -- Input symbols from flags, one for each cell: 0 for a data cell, another number for a placeholder. Assumes nothing.
 use Prim.Native.Nat.{ℕ, _<_}
 use mathlib.Core.Path.{_≡_}
-use mathlib.Core.Bool.{Bool}
 use mathlib.Core.List.{List}
-use lib.Dec.{eqb}
 use lib.ListN.{getD}
-use Rattle.counting.specs.Search.{bit, pick, count}
+use Rattle.counting.specs.Search.{bit, pick, count, isZero}
 use Rattle.rules.specs.Frame.{Frame, cells, held, placeholder, filler}
-
-unfoldable pub isZero : List ℕ → ℕ → Bool
-isZero l k = eqb (getD l k 0) 0
 
 -- cell p of the input symbol of the data ds
 unfoldable pub dataCell : List ℕ → List ℕ → ℕ → ℕ

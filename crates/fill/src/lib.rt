@@ -4,10 +4,10 @@ ghost use mathlib.Core.Path.{_≡_};
 ghost use Prim.Native.Nat.{ℕ, _+_, _≤_, _<_};
 ghost use lib.Dec.{ltb, leb};
 ghost use lib.ListN.{length, getD};
-ghost use Rattle.counting.specs.Search.{bit, count, lowest, tabulate};
+ghost use Rattle.counting.specs.Search.{bit, count, lowest, tabulate, isZero};
 ghost use Rattle.counting.specs.Answer.{placeOf};
 ghost use Rattle.rules.specs.Frame.{topData};
-ghost use Rattle.fill.specs.Flags.{isZero, dataCell, fillerCell};
+ghost use Rattle.fill.specs.Flags.{dataCell, fillerCell};
 use counting::Found;
 use counting::wide;
 

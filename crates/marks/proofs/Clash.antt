@@ -1,7 +1,6 @@
 -- Ground 8: what the loop over the kind 3 pilots keeps. Assumes nothing.
 use Prim.Native.Nat.{ℕ, zero, suc, _+_, _≤_, _<_}
 use mathlib.Core.Path.{_≡_, refl, sym, ap, ap₂, _∙_, subst}
-use mathlib.Core.Logic.{inl, inr}
 use mathlib.Core.Bool.{Bool, true, false, not, _||_, or-assoc, or-comm}
 use mathlib.Core.List.{List, [], _∷_, map}
 use mathlib.Core.Option.{none, some}
@@ -12,7 +11,7 @@ use lib.ListN.{length, getD, set, take, drop}
 use lib.Seq.{drop-cons, getD-take, length-take-le}
 use borrow.Author.Tests.{not-true, not-false}
 use Rattle.counting.specs.Search.{when, orElse}
-use Rattle.counting.proofs.Bools.{or-false, neither, Same, decide-eq}
+use Rattle.counting.proofs.Bools.{or-false, neither, eqb-sym}
 use Rattle.rules.specs.declared.Device.{Device}
 use Rattle.rules.specs.Plan.{Entry, Plan}
 use Rattle.rules.specs.Bands.{any, excluded}
@@ -70,15 +69,6 @@ head-is e = cc
 
 tail-is : {x y : ℕ} {xs ys : List ℕ} → x ∷ xs ≡ y ∷ ys → xs ≡ ys
 tail-is e = cc
-
-eqb-sym : (a b : ℕ) → eqb a b ≡ eqb b a
-eqb-sym a b = go (decide-eq a b) (decide-eq b a)
-  where
-    go : Same a b → Same b a → eqb a b ≡ eqb b a
-    go (inl (e, t)) (inl (f, u)) = t ∙ sym u
-    go (inl (e, t)) (inr (f, u)) = absurd (f (sym e))
-    go (inr (e, t)) (inl (f, u)) = absurd (e (sym f))
-    go (inr (e, t)) (inr (f, u)) = t ∙ sym u
 
 -- a cell is clear exactly if ground 8 finds nothing there
 clear-test : (a b c x : Bool) → eqb (firstMark a b (c || x)) 0 ≡ not (((a || b) || c) || x)

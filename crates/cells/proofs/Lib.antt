@@ -1,0 +1,9 @@
+pub mod Walk
+pub mod Residues
+pub mod Rows
+pub mod Turns
+pub mod Stores
+pub mod Frames
+pub mod Plans
+pub mod Parts
+pub mod Answers

@@ -1,0 +1,359 @@
+// Cells and subcarriers of an accepted plan: the subcarriers by rank (`car`) and by cell (`kc`), the placeholders of an input symbol
+// (`flag`) and N_D, and the cells of a symbol placed on the line. Cells are read row after row in the order of reversed bits, so that
+// no rank is computed. The entry `data_count` reads the plan bytes anew, changes nothing and asks nothing of its caller.
+ghost use mathlib.Core.Path.{_≡_};
+ghost use Prim.Native.Nat.{ℕ, _≤_, _<_};
+ghost use lib.Dec.{eqb};
+ghost use lib.ListN.{length, getD, take};
+ghost use Rattle.counting.specs.Search.{bit, count, select, isZero};
+ghost use Rattle.rules.specs.Device.{khz50};
+ghost use Rattle.rules.specs.Plan.{planOf};
+ghost use Rattle.rules.specs.Fits.{Fits};
+ghost use Rattle.rules.specs.Frame.{reversed, frameOf, cells, carrier, spot, held, dataCount, lineSymbol};
+ghost use Rattle.rules.specs.Steps.{frameCount, dataCountAnswer};
+ghost use Rattle.judge.specs.Studied.{Studied};
+ghost use Rattle.cells.specs.Loops.{stores, rank7, cell7, meets};
+use counting::wide;
+use rules::CountAnswer;
+use rules::Device;
+use rules::Verdict;
+
+// Phases are 0 to 127.
+const PHASES: usize = 128;
+
+// The order of the 128 rows: the i-th row read is i with its seven bits reversed.
+const ROWS: [u8; 128] = [
+    0,
+    64,
+    32,
+    96,
+    16,
+    80,
+    48,
+    112,
+    8,
+    72,
+    40,
+    104,
+    24,
+    88,
+    56,
+    120,
+    4,
+    68,
+    36,
+    100,
+    20,
+    84,
+    52,
+    116,
+    12,
+    76,
+    44,
+    108,
+    28,
+    92,
+    60,
+    124,
+    2,
+    66,
+    34,
+    98,
+    18,
+    82,
+    50,
+    114,
+    10,
+    74,
+    42,
+    106,
+    26,
+    90,
+    58,
+    122,
+    6,
+    70,
+    38,
+    102,
+    22,
+    86,
+    54,
+    118,
+    14,
+    78,
+    46,
+    110,
+    30,
+    94,
+    62,
+    126,
+    1,
+    65,
+    33,
+    97,
+    17,
+    81,
+    49,
+    113,
+    9,
+    73,
+    41,
+    105,
+    25,
+    89,
+    57,
+    121,
+    5,
+    69,
+    37,
+    101,
+    21,
+    85,
+    53,
+    117,
+    13,
+    77,
+    45,
+    109,
+    29,
+    93,
+    61,
+    125,
+    3,
+    67,
+    35,
+    99,
+    19,
+    83,
+    51,
+    115,
+    11,
+    75,
+    43,
+    107,
+    27,
+    91,
+    59,
+    123,
+    7,
+    71,
+    39,
+    103,
+    23,
+    87,
+    55,
+    119,
+    15,
+    79,
+    47,
+    111,
+    31,
+    95,
+    63,
+    127,
+];
+
+// A byte as an index.
+fn octet(x: u8) -> usize
+    ensures { λ r. ⌜ r ≡ x ⌝ }
+{
+    x as usize
+}
+
+// The i-th row read.
+pub fn row_of(i: usize) -> usize
+    requires { ⌜ i < 128 ⌝ }
+    ensures { λ r. ⌜ r ≡ reversed 7 i ⌝ }
+{
+    octet(ROWS[i])
+}
+
+// The subcarrier of each cell, from the subcarriers by rank.
+pub fn cell_carriers(car: &[u16], kc: &mut [u16])
+    requires { ⌜ (length (now kc) ≤ 4096) × (length (now kc) ≤ length (now car)) ⌝ }
+    ensures { λ _. ⌜ ((p : ℕ) → p < length (now (kc .entry)) → getD (now (kc .exit)) p 0 ≡ getD (now (car .entry)) (rank7 (length (now (kc .entry))) p) 0) ⌝ }
+{
+    let ni = kc.len();
+    let mut rank: usize = 0;
+    let mut i: usize = 0;
+    while i < 128 {
+        let mut p = row_of(i);
+        while p < ni {
+            kc[p] = car[rank];
+            rank = rank + 1;
+            p = p + 128;
+        }
+        i = i + 1;
+    }
+}
+
+// The cells go to the subcarriers of their ranks.
+pub fn place_rows(car: &[u16], cells: &[u16], out: &mut [u16])
+    requires { ⌜ (length (now cells) ≤ 4096) × (length (now cells) ≤ length (now car)) × ((r : ℕ) → r < length (now cells) → getD (now car) r 0 < length (now out)) ⌝ }
+    ensures { λ _. ⌜ now (out .exit) ≡ stores (λ r. getD (now (car .entry)) r 0) (λ r. getD (now (cells .entry)) (cell7 (length (now (cells .entry))) r) 0) (length (now (cells .entry))) (now (out .entry)) ⌝ }
+{
+    let ni = cells.len();
+    let mut rank: usize = 0;
+    let mut i: usize = 0;
+    while i < 128 {
+        let mut p = row_of(i);
+        while p < ni {
+            let k = wide(car[rank]);
+            out[k] = cells[p];
+            rank = rank + 1;
+            p = p + 128;
+        }
+        i = i + 1;
+    }
+}
+
+// Cells copied over others, as many as there are of those.
+pub fn copy(from: &[u16], to: &mut [u16])
+    requires { ⌜ length (now to) ≤ length (now from) ⌝ }
+    ensures { λ _. ⌜ now (to .exit) ≡ take (length (now (to .entry))) (now (from .entry)) ⌝ }
+{
+    let n = to.len();
+    let mut done: usize = 0;
+    while done < n {
+        to[done] = from[done];
+        done = done + 1;
+    }
+}
+
+// 1 where the mark is 0.
+fn one_if_zero(x: u16) -> usize
+    ensures { λ r. ⌜ r ≡ bit (eqb x 0) ⌝ }
+{
+    if x == 0 { 1 } else { 0 }
+}
+
+// The subcarriers with a rank in rising order, and their number. Each is stored; the next one takes its place where it has no rank.
+pub fn carriers(mark: &[u16], width: usize, car: &mut [u16]) -> usize
+    requires { ⌜ (width ≤ 4096) × (width ≤ length (now mark)) × (width ≤ length (now car)) ⌝ }
+    ensures number { λ r. ⌜ r ≡ count (isZero (now (mark .entry))) width ⌝ }
+    ensures listed { λ r. ⌜ ((i : ℕ) → i < r → getD (now (car .exit)) i 0 ≡ select (isZero (now (mark .entry))) width i) ⌝ }
+{
+    let mut n: usize = 0;
+    let mut k: usize = 0;
+    while k < width {
+        car[n] = k as u16;
+        n = n + one_if_zero(mark[k]);
+        k = k + 1;
+    }
+    n
+}
+
+// Flags the cells whose subcarrier is scattered when they are sent, and counts them, one delay after the other. At the symbol's own
+// phase the pattern stands on the subcarriers that are `base` modulo 128.
+pub fn holders(m: usize, base: usize, kc: &[u16], flag: &mut [u8]) -> usize
+    requires { ⌜ (0 < m) × (m ≤ 4096) × (base ≤ 65535) × (length (now kc) ≤ 4096) × (length (now kc) ≤ length (now flag)) × ((p : ℕ) → p < length (now kc) → getD (now flag) p 0 ≡ 0) ⌝ }
+    ensures flags { λ r. ⌜ ((p : ℕ) → p < length (now (kc .entry)) → getD (now (flag .exit)) p 0 ≡ bit (meets base m (now (kc .entry)) p)) ⌝ }
+    ensures number { λ r. ⌜ r ≡ count (meets base m (now (kc .entry))) (length (now (kc .entry))) ⌝ }
+{
+    let ni = kc.len();
+    let mut n: usize = 0;
+    let mut delay: usize = 0;
+    while delay < m {
+        let want = (base + delay) % PHASES;
+        let mut p = delay;
+        while p < ni {
+            if wide(kc[p]) % PHASES == want {
+                flag[p] = 1;
+                n = n + 1;
+            }
+            p = p + m;
+        }
+        delay = delay + 1;
+    }
+    n
+}
+
+// The subcarriers by rank, and those of the cells.
+pub fn spots(d: Device, plan: &[u8], marks: &[u16; 4096], car: &mut [u16], kc: &mut [u16])
+    requires { ⌜ Fits d × Studied d (now plan) (now marks) × (length (now car) ≡ 4096) × (length (now kc) ≡ cells (frameOf d (planOf (now plan)))) ⌝ }
+    ensures ranks { λ _. ⌜ ((i : ℕ) → i < length (now (kc .entry)) → getD (now (car .exit)) i 0 ≡ carrier (frameOf d (planOf (now (plan .entry)))) i) ⌝ }
+    ensures spots { λ _. ⌜ ((p : ℕ) → p < length (now (kc .entry)) → getD (now (kc .exit)) p 0 ≡ spot (frameOf d (planOf (now (plan .entry)))) p) ⌝ }
+{
+    carriers(marks, d.subcarriers, car);
+    cell_carriers(car, kc);
+}
+
+// The flags of the placeholders of the input symbol at phase j, from the subcarriers of the cells; and N_D.
+pub fn flags_at(d: Device, plan: &[u8], m: usize, j: usize, kc: &[u16], flag: &mut [u8]) -> usize
+    requires { ⌜ Fits d × (8 ≤ length (now plan)) × (planOf (now plan) .plc ≤ d .highPlc) × (m ≡ planOf (now plan) .depth) × (0 < m) × (m ≤ 4096) × (j ≤ 4096) × (length (now kc) ≡ cells (frameOf d (planOf (now plan)))) × ((p : ℕ) → p < length (now kc) → getD (now kc) p 0 ≡ spot (frameOf d (planOf (now plan))) p) × (length (now kc) ≤ length (now flag)) × ((p : ℕ) → p < length (now kc) → getD (now flag) p 0 ≡ 0) ⌝ }
+    ensures flags { λ r. ⌜ ((p : ℕ) → p < length (now (kc .entry)) → getD (now (flag .exit)) p 0 ≡ bit (held (frameOf d (planOf (now (plan .entry)))) j p)) ⌝ }
+    ensures number { λ r. ⌜ r ≡ dataCount (frameOf d (planOf (now (plan .entry)))) j ⌝ }
+{
+    let l = plan::number_at(plan, 4);
+    let n = holders(m, l + d.plcWidth + j, kc, flag);
+    kc.len() - n
+}
+
+// The subcarriers by rank and by cell, the flags of the placeholders of the input symbol at phase j, and N_D.
+pub fn prepare(
+    d: Device,
+    plan: &[u8],
+    marks: &[u16; 4096],
+    m: usize,
+    j: usize,
+    car: &mut [u16],
+    kc: &mut [u16],
+    flag: &mut [u8],
+) -> usize
+    requires { ⌜ Fits d × Studied d (now plan) (now marks) × (m ≡ planOf (now plan) .depth) × (0 < m) × (m ≤ 4096) × (j ≤ 4096) × (length (now car) ≡ 4096) × (length (now kc) ≡ cells (frameOf d (planOf (now plan)))) × (length (now kc) ≤ length (now flag)) × ((p : ℕ) → p < length (now kc) → getD (now flag) p 0 ≡ 0) ⌝ }
+    ensures ranks { λ r. ⌜ ((i : ℕ) → i < length (now (kc .entry)) → getD (now (car .exit)) i 0 ≡ carrier (frameOf d (planOf (now (plan .entry)))) i) ⌝ }
+    ensures spots { λ r. ⌜ ((p : ℕ) → p < length (now (kc .entry)) → getD (now (kc .exit)) p 0 ≡ spot (frameOf d (planOf (now (plan .entry)))) p) ⌝ }
+    ensures flags { λ r. ⌜ ((p : ℕ) → p < length (now (kc .entry)) → getD (now (flag .exit)) p 0 ≡ bit (held (frameOf d (planOf (now (plan .entry)))) j p)) ⌝ }
+    ensures number { λ r. ⌜ r ≡ dataCount (frameOf d (planOf (now (plan .entry)))) j ⌝ }
+{
+    spots(d, plan, marks, car, kc);
+    flags_at(d, plan, m, j, kc, flag)
+}
+
+// The symbol on the line that sends the cells x, from the subcarriers by rank.
+pub fn place(d: Device, plan: &[u8], marks: &[u16; 4096], car: &[u16], x: &[u16], out: &mut [u16])
+    requires { ⌜ Fits d × Studied d (now plan) (now marks) × (length (now car) ≡ 4096) × (length (now x) ≡ cells (frameOf d (planOf (now plan)))) × (length (now out) ≡ d .subcarriers) × ((i : ℕ) → i < length (now x) → getD (now car) i 0 ≡ carrier (frameOf d (planOf (now plan))) i) ⌝ }
+    ensures { λ _. ⌜ now (out .exit) ≡ lineSymbol (frameOf d (planOf (now (plan .entry)))) (now (x .entry)) ⌝ }
+{
+    copy(marks, out);
+    place_rows(car, x, out);
+}
+
+// N_D of an accepted plan at a phase; ground 16 where it is out of its range.
+fn count_in(d: Device, plan: &[u8], marks: &[u16; 4096], ni: usize, phase: u32) -> CountAnswer
+    requires { ⌜ Fits d × Studied d (now plan) (now marks) × (0 < planOf (now plan) .depth) × (planOf (now plan) .depth ≤ 4096) × (ni ≡ cells (frameOf d (planOf (now plan)))) ⌝ }
+    ensures { λ r. ⌜ r ≡ frameCount (frameOf d (planOf (now (plan .entry)))) phase ⌝ }
+{
+    let j = phase as usize;
+    if PHASES <= j {
+        return CountAnswer::Refused(16, 0);
+    }
+    let m = plan::number_at(plan, 6);
+    let mut car = [0u16; 4096];
+    let mut kc = [0u16; 4096];
+    let mut flag = [0u8; 4096];
+    let n = prepare(
+        d,
+        plan,
+        marks,
+        m,
+        j,
+        &mut car,
+        &mut kc[..ni],
+        &mut flag[..ni],
+    );
+    let nd = n as u32;
+    CountAnswer::Count(nd)
+}
+
+// N_D at a phase: how many data cells an input symbol at that phase has.
+pub fn data_count(plan: &[u8], phase: u32) -> CountAnswer
+    ensures { λ r. ⌜ r ≡ dataCountAnswer khz50 (now (plan .entry)) phase ⌝ }
+{
+    let d = rules::khz50_device();
+    let mut marks = [0u16; 4096];
+    match judge::study(d, plan, &mut marks) {
+        Verdict::Refused(g, place) => CountAnswer::Refused(g, place),
+        Verdict::Accepted(ni) => count_in(d, plan, &marks, ni as usize, phase),
+    }
+}
