@@ -1,0 +1,1108 @@
+#!/usr/bin/env python3
+"""Makes the test data of emitcases from the second model of the emitter.
+
+    python3 tests/emits.py              writes crates/emitcases/stdin and stdout
+    python3 tests/emits.py --check      compares them, exits 1 on a difference
+    python3 tests/emits.py --mutants    bends the model in many ways, each of
+                                        which must change a line of stdout;
+                                        exits 1 if one does not
+
+stdin holds, for each case: the plan's length (4 bytes, high byte first, the
+upper two zero), the starting phase (4 bytes, high byte first), the number of
+steps (4 bytes, high byte first, the upper two zero), the plan, then one byte
+for each step.  The end of the input ends the list.
+
+What the program does with a case:
+
+- `x` is the generator: x starts at 1 for each case; the next is
+  x = x * 48271 % 2147483647; a data cell is x % 16384 of the new x.
+- `sum` is the checksum, 0 at the start of a case:
+  mix(sum, v) = (sum * 48271 + v) % 2147483647.
+- The store is 120,000 cells, all 43981 at the start of each case.  The symbol
+  buffer is 4,097 cells, all 43981 at the start of each case.  The data buffer
+  is 4,096 cells.
+- First N_D: for each phase 0 to 128 and then 4294967295: mix 1 and N_D, or mix
+  2, number and place of the refusal.
+- Then, if the judge accepts the plan, a short fresh start: at the starting phase,
+  with only the first need - 1 cells of the store.  `need` = M x N_I, M being plan
+  byte 7 and N_I from the judge.  It is always refused, by 16 or 17; whatever it
+  answers is mixed as below, then the first 16 cells of the store.  After it another
+  with exactly the first `need` cells; its answer is mixed, and the next is done all
+  the same.
+- Then the fresh start at the starting phase with the whole store: mix 1, phase and
+  row of the state it gives, or mix 2, number and place; if it was refused, no step
+  is taken.
+- Then the steps, in order.  Each is given the state as the last answer left it,
+  except where said; `nd` is N_D at the state's phase.  The cells that a step names
+  are generated before it, also for a step that is refused.  Unless it says
+  otherwise, a step is given the whole store, and as symbol the first 4,096 cells of
+  the symbol buffer:
+     0  emit with nd generated cells
+     1  flush
+     2  emit with nd - 1 generated cells
+     3  emit with nd + 1 generated cells
+     4  emit with nd generated cells, of which the one at nd // 2 is then put to
+        16384 and the last to 65535 (if both are the same cell: 65535)
+     5  emit with nd generated cells and phase + 128 (the state handed back has
+        that phase; the run goes on with the phase as it was before)
+     6  flush with row + 32 (the run goes on with the row as it was before)
+     7  emit with nd generated cells and only the first need - 1 cells of the store
+     8  flush with the first 4,095 cells of the symbol buffer
+     9  flush with all 4,097 cells of the symbol buffer
+    10  emit with nd generated cells and exactly the first `need` cells of the
+        store (accepted)
+    11  flush with phase 4294967295 and row 4294967295 (the run goes on with
+        phase and row as before)
+    12  emit with no cells, row + 32 and the first 4,095 cells of the symbol
+        buffer (ground 16 comes first; the run goes on with phase and row as before)
+    13  emit with nd - 1 generated cells, of which cell 0 is then put to 16384 (18
+        comes before 19)
+    14  emit with nd - 1 generated cells and only the first need - 1 cells of the
+        store (17 comes before 18)
+    15  emit with nd - 1 generated cells, of which cell 0 is then put to 32768, and
+        the first 4,095 cells of the symbol buffer (17 comes before 18 and 19)
+    16  flush with row M (the run goes on with the row as it was before)
+    17  emit with nd generated cells, of which cell 0 is then put to 32768 (19 at
+        place 0)
+  A step with another number, 18 or more, counts as 1.  After each step: mix 1, next
+  phase and next row if it was sent; else mix 2, number, place, and the phase and row
+  handed back; then mix the first 4,096 cells of the symbol buffer (also after a
+  refused step: nothing may have changed).
+- At the end of the case, also if the fresh start was refused, mix all 120,000
+  cells of the store.
+
+The case's line: `sent refused sum`, decimal, single spaces: how many steps were
+sent, how many refused, the checksum.  If the fresh start was refused:
+`refused number place sum`, the first being that word.
+"""
+
+import sys
+from dataclasses import fields, replace
+from itertools import chain, permutations, repeat
+from operator import mul
+from pathlib import Path
+
+sys.dont_write_bytecode = True
+
+import emitter
+import plans
+from emitter import Emitter, EmitterLimits
+from make_plans import all_plans
+from model import Limits
+from plans import (PLAN_A, band_below, entries, equal_12, near_a, near_b, outside, plan,
+                   second, singles, spread)
+
+ROOT = Path(__file__).resolve().parent.parent
+STDIN = ROOT / 'crates' / 'emitcases' / 'stdin'
+STDOUT = ROOT / 'crates' / 'emitcases' / 'stdout'
+
+PRIME = 2147483647
+STORE = 120000
+SYMBOL = 4096
+UNTOUCHED = 43981
+TOP = 4294967295
+ASKED = (*range(129), TOP)      # phases whose N_D is asked
+REFUSED = (2, 3, 4, 5, 6, 7, 8, 9, 11, 12, 13, 14, 15, 16, 17)
+PHASE_KEPT = (5, 11, 12)        # the run goes on with the phase as it was
+ROW_KEPT = (6, 11, 12, 16)      # the run goes on with the row as it was
+
+
+# --- the cases -------------------------------------------------------------
+
+def steps_of(seed, sent, opening=(), closing=()):
+    """The opening, then steps in no order, so many of which are sent and among
+    which each of the refused kinds is, then the closing."""
+    steps = []
+    x = seed
+    drawn = 0
+    while drawn < sent:
+        x = x * 48271 % PRIME
+        draw, which = x // 64 % 100, x // 8192
+        if draw < 48:
+            kind = 0
+        elif draw < 64:
+            kind = 1
+        elif draw < 66:
+            kind = (18, 77, 128, 255)[which % 4]    # these count as 1
+        elif draw < 72:
+            kind = 10
+        else:
+            kind = REFUSED[which % len(REFUSED)]
+        drawn += kind not in REFUSED
+        steps.append(kind)
+    for kind in REFUSED:
+        if kind not in steps:
+            x = x * 48271 % PRIME
+            steps.insert(x // 64 % len(steps), kind)
+    return bytes([*opening, *steps, *closing])
+
+
+def all_cases():
+    """(name, plan, phase, steps, want).  `want` is worked out by hand: N_I of
+    an accepted plan, or the line's first words of a refused start."""
+    cases = []
+
+    def case(name, data, phase, ranks, sent=160, opening=(), flushed=False):
+        """A run; a flushed one ends with M - 1 flushes."""
+        closing = [1] * (data[7] - 1) if flushed else []
+        cases.append((name, data, phase, steps_of(len(cases) + 1, sent, opening, closing), ranks))
+
+    # Short runs.  If nothing is sent, the fresh store stays as it was filled.
+    cases.append(('depth 2, nearly every step refused', near_a(M=2), 126,
+                  bytes((*REFUSED, 0, *REFUSED[::-1], 10, 1, 13, 4, 2)), 425))
+    cases.append(('depth 3, every step refused', near_a(M=3), 127, bytes(REFUSED), 425))
+    cases.append(('depth 3, a few steps over the wrap', near_a(M=3), 126,
+                  bytes((0, 10, 1, 4, 0, 0, 7, 1, 10)), 425))
+    cases.append(('depth 32, a few steps, pilots and an exclusion',
+                  near_a(singles(852), [980, 900], M=32), 6,
+                  bytes((6, 0, 0, 3, 1, 0, 10, 8, 0, 1, 1, 0, 0, 9, 0)), 422))
+    for depth, phase in ((4, 5), (1, 0), (3, 0), (32, 127)):
+        cases.append(('depth %d, no steps' % depth, near_a(M=depth), phase, b'', 425))
+
+    # Refused at the start, by the phase (the low bits are sound) and by the plan.
+    for phase in (128, 255, 65536, TOP - 127, TOP):
+        cases.append(('plan A, phase %d' % phase, PLAN_A, phase, b'\0\1', 'refused 16 0'))
+    for n, (name, data, want, _) in enumerate(all_plans()):
+        if want.startswith('refused'):
+            cases.append((name, data, (0, 127, 128, TOP)[n % 4], b'\0\1', want))
+
+    # Plan A at many depths.  A 5 at phase 0 asks for phase 128, a 6 at row 0 for row 32.
+    case('plan A', PLAN_A, 0, 425, opening=(5, 0, 4, 6))
+    case('depth 3 from 0 and over the wrap', near_a(M=3), 0, 425, 270, (12,), True)
+    case('depth 1 from 127', near_a(M=1), 127, 425, opening=(0, 5, 0))
+    case('depth 2 from 64', near_a(M=2), 64, 425)
+    case('depth 3 from 125', near_a(M=3), 125, 425)
+    case('depth 7 from 1', near_a(M=7), 1, 425, flushed=True)
+    case('depth 31 from 64', near_a(M=31), 64, 425)
+    case('depth 32 from 125', near_a(M=32), 125, 425, 160, (6, 11, 0), True)
+
+    # M divides N_I.
+    case('depth 3, 3 x 141 ranks', near_a(singles(852, 1108), M=3), 125, 423)
+    case('depth 32, 32 x 13 ranks',
+         near_a(singles(810, 840, 870, 1070, 1100, 1130, 1160, 1190, 1220), M=32), 1, 416, 165)
+    case('depth 8, 384 ranks: three whole columns', near_a(pilots=range(801, 883, 2), M=8),
+         120, 384)
+
+    # Pilots and exclusions.
+    case('pilots on all of the grid, an exclusion, depth 4, 4 x 105 ranks',
+         near_a(singles(1100), [852, 980, 1108, 1236]), 127, 420)
+    case('120 pilots, depth 5, 5 x 61 ranks', near_a(pilots=range(1060, 1180), M=5), 127, 305)
+    case('22 single exclusions, depth 31, 31 x 13 ranks', second(equal_12(), 0, 31), 64, 403)
+    case('off the chain: 0xFF, depth 16',
+         spread(entries(972, 16, outside(800, 1240)), [0, 3, 7], 9), 64, 425)
+
+    # Bands.
+    case('a band below, depth 2, 2 x 233 ranks', second(band_below(700, 740), 0, 2), 1, 466)
+    case('two bands with single exclusions, depth 6',
+         second(near_b([(1300, 1319)] + singles(1240, 1250, 1260, 1270, 1280, 1290,
+                                                1325, 1335, 1345, 1355, 1365, 1375)), 0, 6),
+         125, 953)
+    case('four bands, depth 20',
+         plan(800, 20, [(0, 199)] + [(600 + 420 * n, 619 + 420 * n) for n in range(3)]
+              + [(1901, 4095)]), 0, 1625)
+
+    # L at both ends.
+    case('L 204, a wide band, depth 7, 7 x 191 ranks', plan(204, 7, outside(148, 1500)), 64, 1337)
+    case('L 3885, a wide band, depth 31', plan(3885, 31, outside(2000, 3948), [2037]), 0, 1932,
+         165)
+
+    # The largest plan.
+    case('largest, depth 3', second(plans.LARGEST, 0, 3), 1, 3745)
+    case('largest', plans.LARGEST, 0, 3745, 160, (5, 6), True)
+    return cases
+
+
+# --- the lines -------------------------------------------------------------
+
+def mix(total, numbers):
+    """A polynomial modulo the prime 2^31 - 1, so that the order counts."""
+    for v in numbers:
+        total = (total * 48271 + v) % PRIME
+    return total
+
+
+POWERS = [pow(48271, SYMBOL - 1 - i, PRIME) for i in range(SYMBOL)]
+
+
+class Blocks:
+    """What up to 4,096 cells add to a checksum.  The last is kept: a refused step
+    leaves the symbol as it was, and much of the store is alike."""
+    last, added = [], 0
+
+    @classmethod
+    def add(cls, block):
+        if block != cls.last:
+            cls.last, cls.added = block, sum(map(mul, block, POWERS[-len(block):]))
+        return cls.added
+
+
+def mix_cells(total, cells):
+    """The same for many cells, faster: 4,096 of them at a time."""
+    for at in range(0, len(cells), SYMBOL):
+        block = cells[at:at + SYMBOL]
+        total = (total * pow(48271, len(block), PRIME) + Blocks.add(block)) % PRIME
+    return total
+
+
+class Generator:
+    """The data cells of a case."""
+
+    def __init__(self):
+        self.x = 1
+
+    def take(self, count):
+        cells = []
+        x = self.x
+        for _ in range(count):
+            x = x * 48271 % PRIME
+            cells.append(x % 16384)
+        self.x = x
+        return cells
+
+
+def given_to(kind, m, phase, row, nd, need, cells):
+    """Phase, row, how much of the store, data (None is a flush) and how much
+    of the symbol buffer a step is given."""
+    store, data, symbol = STORE, None, SYMBOL
+    if kind in (0, 4, 5, 7, 10, 17):
+        data = cells.take(nd)
+    if kind in (2, 13, 14, 15):
+        data = cells.take(nd - 1)
+    if kind == 3:
+        data = cells.take(nd + 1)
+    if kind == 12:
+        data = []
+    if kind == 4:
+        put(data, nd // 2, 16384)
+        put(data, nd - 1, 65535)
+    if kind == 13:
+        put(data, 0, 16384)
+    if kind in (15, 17):
+        put(data, 0, 32768)
+    if kind == 5:
+        phase += 128
+    if kind in (6, 12):
+        row += 32
+    if kind == 16:
+        row = m
+    if kind == 11:
+        phase = row = TOP
+    if kind in (7, 14):
+        store = need - 1
+    if kind == 10:
+        store = need
+    if kind in (8, 12, 15):
+        symbol = SYMBOL - 1
+    if kind == 9:
+        symbol = SYMBOL + 1
+    return phase, row, store, data, symbol
+
+
+def put(cells, i, cell):
+    """Puts a cell that is there; N_D of a bent model may be 0."""
+    if 0 <= i < len(cells):
+        cells[i] = cell
+
+
+def mix_answer(total, answer):
+    """Mixes what a fresh start or a step answers."""
+    return mix(total, (2 if answer[0] == 'refused' else 1, *answer[1:]))
+
+
+def line_of(model, data, start, steps):
+    """The line of a case."""
+    total = 0
+    counts = {}
+    for phase in ASKED:
+        count = model.data_count(data, phase)
+        counts[phase] = 0 if isinstance(count, tuple) else count
+        total = mix(total, (2, *count[1:]) if isinstance(count, tuple) else (1, count))
+    store = [UNTOUCHED] * STORE
+    at = model.layout(data)
+    need = 0 if isinstance(at, tuple) else data[7] * at.n
+    for size in (need - 1, need) if need > 0 else ():
+        part = store[:size]
+        total = mix_answer(total, model.fresh(data, start, part))
+        assert len(part) == size
+        store[:size] = part
+        if size < need:
+            total = mix_cells(total, store[:16])
+    answer = model.fresh(data, start, store)
+    total = mix_answer(total, answer)
+    if answer[0] == 'refused':
+        return 'refused %d %d %d' % (*answer[1:], mix_cells(total, store))
+    _, phase, row = answer
+    buffer = [UNTOUCHED] * (SYMBOL + 1)
+    cells = Generator()
+    sent = 0
+    for kind in steps:
+        asked_phase, asked_row, held, lent, size = given_to(
+            kind, data[7], phase, row, counts.get(phase, 0), need, cells)
+        part = store if held == STORE else store[:held]
+        symbol = buffer[:size]
+        answer = model.step(data, asked_phase, asked_row, part, lent, symbol)
+        assert len(part) == held and len(symbol) == size
+        if part is not store:
+            store[:held] = part
+        buffer[:size] = symbol
+        if kind not in PHASE_KEPT:
+            phase = answer[-2]
+        if kind not in ROW_KEPT:
+            row = answer[-1]
+        sent += answer[0] == 'sent'
+        total = mix_cells(mix_answer(total, answer), buffer[:SYMBOL])
+    return '%d %d %d' % (sent, len(steps) - sent, mix_cells(total, store))
+
+
+def check_case(case, line):
+    """The line against what was worked out by hand."""
+    name, data, _, steps, want = case
+    if isinstance(want, int):
+        assert Emitter().layout(data).n == want, name
+        refused = sum(kind in REFUSED for kind in steps)
+        want = '%d %d' % (len(steps) - refused, refused)
+    assert line.startswith(want + ' '), '%s: by hand %s, model %s' % (name, want, line)
+
+
+def make():
+    """The cases, their lines, and the bytes of stdin and stdout."""
+    cases = all_cases()
+    model = Emitter()
+    given = b''
+    lines = []
+    sample = Generator().take(10000)
+    assert mix_cells(5, sample) == mix(5, sample)
+    assert len({case[0] for case in cases}) == len(cases), 'two cases of one name'
+    for case in cases:
+        _, data, phase, steps, _ = case
+        lines.append(line_of(model, data, phase, steps))
+        check_case(case, lines[-1])
+        given += b''.join(n.to_bytes(4, 'big') for n in (len(data), phase, len(steps)))
+        given += data + steps
+    return cases, lines, given, ''.join(x + '\n' for x in lines).encode()
+
+
+# --- mutants ---------------------------------------------------------------
+
+EQUIVALENT = {
+    'nothing': 'The model that the others bend, as it is.',
+    'emitted phase not taken modulo 128':
+        'The grid repeats every 128 subcarriers, so it is the same at phase j and j + 128.',
+}
+
+
+class Total(Emitter):
+    """The model that is bent.  Whatever the bend, it answers, as a program does:
+    a cell that it is not given reads 0, one that has no place is not written, and
+    a rank is below N_I."""
+
+    def ranks_of_cells(self, n):
+        return [min(rank or 0, n - 1) for rank in Emitter.ranks_of_cells(self, n)]
+
+    def input_symbol(self, at, phase, data):
+        return Emitter.input_symbol(
+            self, at, phase, None if data is None else chain(data, repeat(0)))
+
+    def write(self, at, row, store, cells):
+        for p, cell in enumerate(cells):
+            i = self.place(at, row, p)
+            if i < len(store):
+                store[i] = cell
+
+    def send(self, at, row, store, symbol):
+        if len(store) < STORE:
+            store = store + [0] * (STORE - len(store))
+        line = []
+        Emitter.send(self, at, row, store, line)
+        symbol[:len(line)] = line[:len(symbol)]
+
+
+def bent(**methods):
+    """A model of which some methods are others."""
+    return type('Bent', (Total,), methods)()
+
+
+def limited(**limits):
+    return Total(replace(EmitterLimits(), **limits))
+
+
+def limit_mutants():
+    own = {field.name for field in fields(EmitterLimits)} - {field.name for field in fields(Limits)}
+    for name in sorted(own | {'scattered_from', 'scattered_step'}):
+        value = getattr(EmitterLimits(), name)
+        for other in (value - 1, value + 1):
+            yield 'limit %s %d -> %d' % (name, value, other), limited(**{name: other})
+
+
+def scattered_at(self, at, phase):
+    """The cells whose subcarriers are scattered at the phase."""
+    return [self.on_grid(at.map, k, phase) for k in at.carriers]
+
+
+class RowIsPhase(Total):
+    """The row that it is given is not read."""
+
+    def step(self, plan, phase, row, store, data, symbol):
+        answer = self.refusal(plan, emitter.Given(phase, row, store, data, symbol))
+        if answer:
+            return (*answer, phase, row)
+        return Total.step(self, plan, phase, phase % plan[7], store, data, symbol)
+
+    def next_row(self, at, phase, row):
+        return self.next_phase(phase) % at.m
+
+
+class FirstOnly(Total):
+    """Interleaves the first symbol of a run, and sends the others some other way."""
+
+    def fresh(self, plan, phase, store):
+        self.first = None
+        return Total.fresh(self, plan, phase, store)
+
+    def send(self, at, row, store, symbol):
+        if self.first is None:
+            Total.send(self, at, row, store, symbol)
+            self.first = list(symbol)
+        else:
+            self.other(at, row, store, symbol)
+
+
+class FirstThenCopies(FirstOnly):
+    def other(self, at, row, store, symbol):
+        symbol[:] = at.marks
+        for p, k in enumerate(at.subcarriers):
+            symbol[k] = store[self.place(at, row, p)]
+
+
+class FirstThenDelays(FirstOnly):
+    def other(self, at, row, store, symbol):
+        symbol[:] = at.marks
+        for p, k in enumerate(at.subcarriers):
+            symbol[k] = store[self.source(at, row, p)]
+
+
+class FirstThenPlaces(FirstOnly):
+    def other(self, at, row, store, symbol):
+        symbol[:] = at.marks
+        for p, k in enumerate(at.carriers):
+            symbol[k] = store[self.place(at, row, p)]
+
+
+class FirstAgain(FirstOnly):
+    def other(self, at, row, store, symbol):
+        symbol[:] = self.first
+
+
+class Silent(Total):
+    """Its steps answer as they should."""
+
+    def step(self, plan, phase, row, store, data, symbol):
+        return Total.step(self, plan, phase, row, list(store), data, list(symbol))
+
+
+def nothing(*given):
+    """Instead of a method that writes."""
+
+
+def shortcut_mutants():
+    yield 'N_D counted from the emitted symbol', bent(
+        count=lambda self, at, phase: at.n - sum(scattered_at(self, at, phase)))
+    yield 'placeholders of the emitted symbol', bent(placeholders=scattered_at)
+    yield 'delay counted in cells', bent(
+        source=lambda self, at, row, p: self.place(at, (row - (row * at.n + p)) % at.m, p))
+    yield 'scattered pilots referred to subcarrier 0', bent(
+        on_grid=lambda self, p, k, phase: (k - phase) % 128 == 0)
+    yield 'next row is the next phase mod M', bent(
+        next_row=lambda self, at, phase, row: self.next_phase(phase) % at.m)
+    yield 'row taken as phase mod M', RowIsPhase()
+    yield 'writes nothing', bent(write=nothing, send=nothing)
+    yield 'steps write nothing', Silent()
+    yield 'writes the store only', bent(send=nothing)
+    yield 'writes the symbol only', bent(write=nothing)
+    yield 'interleaves the first symbol, then copies', FirstThenCopies()
+    yield 'interleaves the first symbol, then only delays', FirstThenDelays()
+    yield 'interleaves the first symbol, then only places', FirstThenPlaces()
+    yield 'sends the first symbol again', FirstAgain()
+    yield 'invented N_D', bent(count=lambda self, at, phase: at.n - at.n // 128)
+    yield 'N_D of one phase later', bent(
+        count=lambda self, at, phase: Total.count(self, at, (phase + 1) % 128))
+    yield 'N_D is N_I', bent(count=lambda self, at, phase: at.n)
+
+
+def refused_mutants():
+    def after(ground, change):
+        """A model that does more when a step is refused by the ground (0: by any)."""
+        def step(self, plan, phase, row, store, data, symbol):
+            answer = Total.step(self, plan, phase, row, store, data, symbol)
+            if answer[0] == 'refused' and ground in (0, answer[1]):
+                return change(answer, plan[7], store, symbol) or answer
+            return answer
+        return bent(step=step)
+
+    def raised(cells, i):
+        cells[i] += 1
+
+    changes = {
+        'moves the phase': lambda a, m, store, symbol: (*a[:3], (a[3] + 1) % 128, a[4]),
+        'moves the row': lambda a, m, store, symbol: (*a[:4], (a[4] + 1) % (m + 1)),
+        'hands back phase 0': lambda a, m, store, symbol: (*a[:3], 0, a[4]),
+        'hands back row 0': lambda a, m, store, symbol: (*a[:4], 0),
+        'writes the first cell of the symbol': lambda a, m, store, symbol: raised(symbol, 0),
+        'writes a cell of the symbol': lambda a, m, store, symbol: raised(symbol, 1000),
+        'writes the last cell of the symbol': lambda a, m, store, symbol: raised(symbol, -1),
+        'writes the first cell of the store': lambda a, m, store, symbol: raised(store, 0),
+        'writes a cell of the store': lambda a, m, store, symbol: raised(store, 401),
+    }
+    for name, change in changes.items():
+        for ground in (0, 16, 17, 18, 19):
+            by = 'any ground' if ground == 0 else 'ground %d' % ground
+            yield 'a step refused by %s %s' % (by, name), after(ground, change)
+    yield 'a refused step hands back the phase modulo 128', after(
+        0, lambda a, m, store, symbol: (*a[:3], a[3] % 128, a[4]))
+    yield 'a refused step hands back the row modulo M', after(
+        0, lambda a, m, store, symbol: (*a[:4], a[4] % m))
+    yield 'a refused step hands back phase and row exchanged', after(
+        0, lambda a, m, store, symbol: (*a[:3], a[4], a[3]))
+
+    def fresh_after(which):
+        """A model whose fresh start writes a cell when it is refused by such a
+        ground.  What one refused by 17 writes, the next writes over."""
+        def fresh(self, plan, phase, store):
+            answer = Total.fresh(self, plan, phase, store)
+            if answer[0] == 'refused' and which(answer[1]):
+                raised(store, 0)
+            return answer
+        return bent(fresh=fresh)
+    yield 'a fresh start refused by any ground writes the store', fresh_after(lambda n: True)
+    yield 'a fresh start refused by ground 16 writes the store', fresh_after(lambda n: n == 16)
+    yield 'a fresh start refused by the plan writes the store', fresh_after(lambda n: n < 16)
+
+
+def fresh_mutants():
+    def rows(change):
+        def fresh_rows(self, at, phase):
+            made = Total.fresh_rows(self, at, phase)
+            return change(self, at, phase, made)
+        return bent(fresh_rows=fresh_rows)
+
+    def back(phase_of, only=lambda at, row: True):
+        """Row M-r without data, at another phase."""
+        return rows(lambda self, at, phase, made: made[:1] + [
+            self.input_symbol(at, phase_of(phase, at.m - row) % 128, None)
+            if only(at, row) else made[row] for row in range(1, at.m)])
+
+    def row_1(at, row):
+        return row == 1
+
+    def last_row(at, row):
+        return row == at.m - 1
+
+    for which, only in (('rows', lambda at, row: True), ('row 1', row_1),
+                        ('row M-1', last_row)):
+        yield 'fresh %s one phase early' % which, back(lambda j, r: j - r - 1, only)
+        yield 'fresh %s one phase late' % which, back(lambda j, r: j - r + 1, only)
+        yield 'fresh %s ahead' % which, back(lambda j, r: j + r, only)
+    yield 'fresh rows at the phase', back(lambda j, r: j)
+    yield 'fresh rows the other way round', rows(
+        lambda self, at, phase, made: made[:1] + made[:0:-1])
+    yield 'fresh row 0 a flush at the phase', rows(
+        lambda self, at, phase, made: [self.input_symbol(at, phase, None)] + made[1:])
+    yield 'fresh row 0 a flush M steps back', rows(
+        lambda self, at, phase, made: [self.input_symbol(at, (phase - at.m) % 128, None)]
+        + made[1:])
+    yield 'fresh row 0 left as it was', rows(lambda self, at, phase, made: [[]] + made[1:])
+    yield 'fresh rows all filler', rows(
+        lambda self, at, phase, made: [made[0]] * at.m)
+    yield 'fresh data zero', rows(
+        lambda self, at, phase, made: [[0 if cell == 0x8001 else cell for cell in row]
+                                       for row in made])
+    yield 'fresh phase gone round at 127', back(lambda j, r: (j - r) % 127)
+    yield 'fresh phase not gone round', rows(
+        lambda self, at, phase, made: made[:1] + [
+            self.input_symbol(at, max(phase - at.m + row, 0), None) for row in range(1, at.m)])
+
+    def fresh_state(change):
+        def fresh(self, plan, phase, store):
+            answer = Total.fresh(self, plan, phase, store)
+            return change(answer, plan) if answer[0] == 'fresh' else answer
+        return bent(fresh=fresh)
+    yield 'fresh row is 1', fresh_state(lambda a, plan: (*a[:2], 1 % plan[7]))
+    yield 'fresh row is the phase mod M', fresh_state(lambda a, plan: (*a[:2], a[1] % plan[7]))
+    yield 'fresh phase one later', fresh_state(lambda a, plan: ('fresh', (a[1] + 1) % 128, 0))
+    yield 'fresh phase 0', fresh_state(lambda a, plan: ('fresh', 0, 0))
+
+
+def reading_mutants():
+    def order(reading_order):
+        return bent(reading_order=reading_order)
+
+    def columns_of(n):
+        return range((n + 127) // 128)
+
+    yield 'bits not reversed', bent(row_read=lambda self, i: i)
+    yield 'six bits of 64 rows', limited(rows=64, row_bits=6)
+    yield 'eight bits of 256 rows', limited(rows=256, row_bits=8)
+    yield 'bits reversed and turned over', bent(
+        row_read=lambda self, i: 127 - Total.row_read(self, i))
+    yield 'two lowest bits reversed only', bent(
+        row_read=lambda self, i: (i & 124) + (i & 1) * 2 + (i >> 1 & 1))
+    yield 'columns read first', order(
+        lambda self, n: [p for c in columns_of(n) for i in range(128)
+                         for p in [128 * c + self.row_read(i)] if p < n])
+    yield 'rows read from right to left', order(
+        lambda self, n: [p for i in range(128)
+                         for p in reversed(range(self.row_read(i), n, 128))])
+    yield 'rows filled one after the other', order(
+        lambda self, n: [p for i in range(128) for c in columns_of(n)
+                         for p in [self.row_read(i) * len(columns_of(n)) + c] if p < n])
+    yield 'missing places counted', bent(
+        ranks_of_cells=lambda self, n: [
+            min(self.row_read(p % 128) * len(columns_of(n)) + p // 128, n - 1)
+            for p in range(n)])
+    yield 'rank and cell exchanged', bent(
+        ranks_of_cells=lambda self, n: Total.reading_order(self, n))
+    yield 'no frequency interleaving', order(lambda self, n: list(range(n)))
+    yield 'ranks falling', bent(
+        ranks_of_cells=lambda self, n: [n - 1 - r for r in Total.ranks_of_cells(self, n)])
+    yield 'first and last rank exchanged', bent(
+        ranks_of_cells=lambda self, n: [
+            {0: n - 1, n - 1: 0}.get(r, r) for r in Total.ranks_of_cells(self, n)])
+
+
+def delay_mutants():
+    delays = {
+        'p div M': lambda at, p: p // at.m,
+        'p div J': lambda at, p: p // -(-at.n // at.m),
+        'M-1 - p mod M': lambda at, p: at.m - 1 - p % at.m,
+        'p + 1 mod M': lambda at, p: (p + 1) % at.m,
+        'rank mod M': lambda at, p: at.ranks[p] % at.m,
+        'p mod M but at most 15': lambda at, p: min(p % at.m, 15),
+        'p mod M but at most 30': lambda at, p: min(p % at.m, 30),
+        'p mod 128 mod M': lambda at, p: p % 128 % at.m,
+        'none': lambda at, p: 0,
+    }
+    for name, delay in delays.items():
+        yield 'delay: %s' % name, bent(delay=lambda self, at, p, delay=delay: delay(at, p))
+        yield 'delay of the store: %s' % name, bent(
+            source=lambda self, at, row, p, delay=delay:
+            self.place(at, (row - delay(at, p)) % at.m, p))
+        yield 'delay of the placeholders: %s' % name, bent(
+            is_placeholder=lambda self, at, p, phase, delay=delay:
+            self.on_grid(at.map, at.carriers[p], phase + delay(at, p)))
+    yield 'ring backwards', bent(
+        source=lambda self, at, row, p: self.place(at, (row + p % at.m) % at.m, p))
+    yield 'ring of 32 rows', bent(
+        source=lambda self, at, row, p: self.place(at, (row - p % at.m) % 32 % at.m, p))
+    yield 'placeholders at an earlier phase', bent(
+        is_placeholder=lambda self, at, p, phase:
+        self.on_grid(at.map, at.carriers[p], phase - p % at.m))
+    yield 'emitted phase not taken modulo 128', bent(
+        is_placeholder=lambda self, at, p, phase:
+        self.on_grid(at.map, at.carriers[p], phase + p % at.m))
+    yield 'placeholder of the rank p', bent(
+        is_placeholder=lambda self, at, p, phase:
+        self.on_grid(at.map, at.subcarriers[p], phase + p % at.m))
+    yield 'placeholder of the subcarrier p', bent(
+        is_placeholder=lambda self, at, p, phase: self.on_grid(at.map, p, phase + p % at.m))
+
+
+def mark_mutants():
+    marks = {'scattered': 0x8000, 'filler': 0x8001, 'excluded': 0x8002,
+             'continuous': 0x8003, 'plc': 0x8004}
+    for name in marks:
+        for other in marks:
+            if name != other:
+                yield ('mark of %s for %s' % (other, name),
+                       limited(**{name + '_mark': marks[other]}))
+
+    def kept(test):
+        """Some subcarriers without a rank keep what the symbol held before."""
+        def send(self, at, row, store, symbol):
+            before = list(symbol)
+            Total.send(self, at, row, store, symbol)
+            for k in set(range(4096)) - set(at.carriers):
+                if test(self, at, k):
+                    symbol[k] = before[k]
+        return bent(send=send)
+    yield 'excluded left unwritten', kept(lambda self, at, k: at.map.excluded[k])
+    yield 'PLC left unwritten', kept(lambda self, at, k: self.is_plc(at.map, k))
+    yield 'predefined pilots left unwritten', kept(
+        lambda self, at, k: k in self.predefined(at.map.l))
+    yield 'further pilots left unwritten', kept(
+        lambda self, at, k: k in [pilot for _, pilot in at.map.pilots])
+    yield 'subcarrier 0 left unwritten', kept(lambda self, at, k: k == 0)
+    yield 'subcarrier 4095 left unwritten', kept(lambda self, at, k: k == 4095)
+    yield 'single exclusions marked as continuous', bent(
+        mark=lambda self, p, k: 0x8003 if p.excluded[k] and p.excluded.find(0) < k
+        < p.excluded.rfind(0) else Total.mark(self, p, k))
+    yield 'PLC of nine', bent(
+        mark=lambda self, p, k: 0x8004 if k == p.l + 8 else Total.mark(self, p, k))
+    yield 'PLC of seven', bent(
+        mark=lambda self, p, k: 0x8003 if k == p.l + 7 else Total.mark(self, p, k))
+    for name, test in (('continuous', lambda cell: cell == 0x8003),
+                       ('PLC', lambda cell: cell == 0x8004),
+                       ('excluded', lambda cell: cell == 0x8002)):
+        def step(self, plan, phase, row, store, data, symbol, test=test):
+            answer = Total.step(self, plan, phase, row, store, data, symbol)
+            if answer[0] == 'sent':
+                at = self.layout(plan)
+                for k, cell in enumerate(symbol):
+                    if test(cell) and self.on_grid(at.map, k, phase):
+                        symbol[k] = 0x8000
+            return answer
+        yield 'scattered before %s' % name, bent(step=step)
+
+    def placeholder(cell):
+        return bent(input_symbol=lambda self, at, phase, data: [
+            cell if held else given for held, given in zip(
+                self.placeholders(at, phase), Total.input_symbol(self, at, phase, data))])
+    yield 'placeholder mark missing: filler', placeholder(0x8001)
+    yield 'placeholder mark missing: zero', placeholder(0)
+
+
+def data_mutants():
+    def filled(order):
+        """The data in another order of the cells."""
+        def input_symbol(self, at, phase, data):
+            cells = Total.input_symbol(self, at, phase, None)
+            free = [p for p in order(at) if cells[p] != 0x8000]
+            for p, cell in zip(free, data or []):
+                cells[p] = cell
+            return cells
+        return bent(input_symbol=input_symbol)
+
+    def changed(change):
+        """Other data; None is a flush."""
+        return bent(input_symbol=lambda self, at, phase, data: Total.input_symbol(
+            self, at, phase, change(data, at.n)))
+
+    yield 'data in falling p', filled(lambda at: range(at.n - 1, -1, -1))
+    yield 'data in rising rank', filled(lambda at: sorted(range(at.n), key=at.ranks.__getitem__))
+    yield 'data under the placeholders lost', bent(
+        input_symbol=lambda self, at, phase, data: [
+            0x8000 if held else 0x8001 if data is None or p >= len(data) else data[p]
+            for p, held in enumerate(self.placeholders(at, phase))])
+    yield 'data is filler', changed(lambda data, n: None)
+    yield 'data is zero', changed(lambda data, n: data and [0] * n)
+    yield 'data of 13 bits', changed(lambda data, n: data and [cell % 8192 for cell in data])
+    yield 'data 0 is filler', changed(lambda data, n: data and [cell or 0x8001 for cell in data])
+    yield 'last data cell lost', changed(lambda data, n: data and [*data[:-1], 0])
+    yield 'first data cell lost', changed(lambda data, n: data and [0, *data[1:]])
+    yield 'flush of data zeros', changed(lambda data, n: [0] * n if data is None else data)
+    yield 'flush of placeholders', changed(lambda data, n: [0x8000] * n if data is None else data)
+    yield 'flush without placeholders', bent(
+        input_symbol=lambda self, at, phase, data: [0x8001] * at.n if data is None
+        else Total.input_symbol(self, at, phase, data),
+        fresh_rows=lambda self, at, phase: Emitter().fresh_rows(at, phase))
+
+    def flushing(change):
+        def step(self, plan, phase, row, store, data, symbol):
+            before = list(store[:plan[7] * 4096])
+            answer = Total.step(self, plan, phase, row, store, data, symbol)
+            if answer[0] == 'sent' and data is None:
+                return change(answer, phase, row, store, before)
+            return answer
+        return bent(step=step)
+
+    def unwritten(answer, phase, row, store, before):
+        store[:len(before)] = before
+        return answer
+    yield 'a flush leaves the store', flushing(unwritten)
+    yield 'a flush leaves the phase', flushing(
+        lambda answer, phase, row, store, before: ('sent', phase, answer[2]))
+    yield 'a flush leaves the row', flushing(
+        lambda answer, phase, row, store, before: ('sent', answer[1], row))
+
+
+def store_mutants():
+    def sent(change):
+        """A model whose sent steps change the store further."""
+        def step(self, plan, phase, row, store, data, symbol):
+            answer = Total.step(self, plan, phase, row, store, data, symbol)
+            if answer[0] == 'sent':
+                change(self, self.layout(plan), row, store)
+            return answer
+        return bent(step=step)
+
+    def clear(self, at, row, store):
+        self.write(at, (row + 1) % at.m, store, [0x8001] * at.n)
+
+    def sent_before(self, plan, phase, row, store, data, symbol):
+        was = list(store)
+        answer = Total.step(self, plan, phase, row, store, data, symbol)
+        if answer[0] == 'sent':
+            self.send(self.layout(plan), row, was, symbol)
+        return answer
+
+    yield 'steps write the cell past M x N_I', sent(
+        lambda self, at, row, store: put(store, at.m * at.n, 0x8001))
+    yield 'steps write the last cell of the store', sent(
+        lambda self, at, row, store: put(store, STORE - 1, 0x8001))
+    yield 'steps write 4,096 cells of a row', sent(
+        lambda self, at, row, store: [put(store, at.n * row + p, 0x8001)
+                                       for p in range(at.n, 4096)])
+    yield 'the row to come cleared', sent(clear)
+    yield 'the first cell of the row before written', sent(
+        lambda self, at, row, store: put(store, (row - 1) % at.m * at.n, 0x8001))
+
+    def fresh(self, plan, phase, store):
+        answer = Total.fresh(self, plan, phase, store)
+        if answer[0] == 'fresh':
+            put(store, plan[7] * self.layout(plan).n, 0x8001)
+        return answer
+    yield 'the fresh start writes the cell past M x N_I', bent(fresh=fresh)
+
+    def filled(self, plan, phase, store):
+        if not self.refusal(plan, emitter.Given(phase, store=store)):
+            store[:] = [0x8001] * len(store)
+        return Total.fresh(self, plan, phase, store)
+    yield 'the fresh start fills the whole store', bent(fresh=filled)
+    yield 'sends before it writes', bent(step=sent_before)
+    yield 'store by cells, then rows', bent(place=lambda self, at, row, p: p * at.m + row)
+    yield 'rows 3,745 cells apart', bent(place=lambda self, at, row, p: 3745 * row + p)
+    yield 'rows M-1 to 0', bent(place=lambda self, at, row, p: (at.m - 1 - row) * at.n + p)
+    yield 'writes the row after', bent(
+        write=lambda self, at, row, store, cells: Total.write(
+            self, at, (row + 1) % at.m, store, cells))
+    yield 'every row written', bent(
+        write=lambda self, at, row, store, cells: [
+            Total.write(self, at, r, store, cells) for r in range(at.m)])
+
+
+def state_mutants():
+    phases = {
+        'goes round at 127': lambda j: (j + 1) % 127,
+        'goes round at 64': lambda j: (j + 1) % 64,
+        'goes round at 256': lambda j: (j + 1) % 256,
+        'stays': lambda j: j,
+        'falls': lambda j: (j - 1) % 128,
+        'goes up by two': lambda j: (j + 2) % 128,
+        'stops at 127': lambda j: min(j + 1, 127),
+    }
+    for name, after in phases.items():
+        yield 'phase %s' % name, bent(next_phase=lambda self, j, after=after: after(j))
+    rows = {
+        'stays': lambda at, row: row,
+        'falls': lambda at, row: (row - 1) % at.m,
+        'goes up by two': lambda at, row: (row + 2) % at.m,
+        'goes round at 32': lambda at, row: (row + 1) % 32,
+        'goes round at M+1': lambda at, row: (row + 1) % (at.m + 1),
+        'goes round at M-1': lambda at, row: (row + 1) % max(at.m - 1, 1),
+        'stops at M-1': lambda at, row: min(row + 1, at.m - 1),
+        'goes round at N_I mod M': lambda at, row: (row + 1) % (at.n % at.m or at.m),
+    }
+    for name, after in rows.items():
+        yield 'row %s' % name, bent(
+            next_row=lambda self, at, phase, row, after=after: after(at, row))
+
+
+def ground_mutants():
+    for order in permutations((16, 17, 18, 19)):
+        if order != Emitter.step_order:
+            yield 'order: %d, %d, %d, %d' % order, bent(step_order=order)
+    for ground in Emitter.step_order:
+        name = 'ground_%d' % ground
+        yield 'ground %d not tried' % ground, bent(
+            step_order=tuple(x for x in Emitter.step_order if x != ground))
+        yield 'place of %d one higher' % ground, bent(**{
+            name: lambda self, at, given, name=name:
+            None if getattr(Emitter, name)(self, at, given) is None
+            else getattr(Emitter, name)(self, at, given) + 1})
+
+    def holds(ground, test):
+        """A ground of place 0 that holds by another test."""
+        return bent(**{'ground_%d' % ground: lambda self, at, given:
+                       0 if test(self, at, given) else None})
+
+    def row_out(at, given):
+        return given.row is not None and given.row >= at.m
+
+    yield 'ground 16: phase not tried', holds(16, lambda self, at, g: row_out(at, g))
+    yield 'ground 16: row not tried', holds(16, lambda self, at, g: g.phase >= 128)
+    yield 'ground 16: phase 128 good in a step', holds(
+        16, lambda self, at, g: g.phase > (127 if g.row is None else 128) or row_out(at, g))
+    yield 'ground 16: phase not tried in a step', holds(
+        16, lambda self, at, g: g.phase > 127 and g.row is None or row_out(at, g))
+    yield 'ground 16: row M good', holds(
+        16, lambda self, at, g: g.phase > 127 or g.row is not None and g.row > at.m)
+    yield 'ground 16: row 31 good at every depth', holds(
+        16, lambda self, at, g: g.phase > 127 or g.row is not None and g.row > 31)
+    yield 'ground 16: row M-1 bad', holds(
+        16, lambda self, at, g: g.phase > 127 or g.row is not None and g.row >= max(at.m - 1, 1))
+    yield 'ground 16: phase 127 bad', holds(16, lambda self, at, g: g.phase > 126
+                                            or row_out(at, g))
+    yield 'ground 16: phase and row by their low byte', holds(
+        16, lambda self, at, g: g.phase % 256 > 127
+        or g.row is not None and g.row % 256 >= at.m)
+    yield 'ground 16: both must be out', holds(
+        16, lambda self, at, g: g.phase > 127 and (g.row is None or g.row >= at.m))
+
+    def short(at, given, need):
+        return given.store is not None and len(given.store) < need
+
+    def odd(given):
+        return given.symbol is not None and len(given.symbol) != 4096
+
+    yield 'ground 17: store with <=', holds(
+        17, lambda self, at, g: short(at, g, at.m * at.n + 1) or odd(g))
+    yield 'ground 17: one cell too few is good', holds(
+        17, lambda self, at, g: short(at, g, at.m * at.n - 1) or odd(g))
+    yield 'ground 17: store of one row', holds(
+        17, lambda self, at, g: short(at, g, at.n) or odd(g))
+    yield 'ground 17: store of M - 1 rows', holds(
+        17, lambda self, at, g: short(at, g, (at.m - 1) * at.n) or odd(g))
+    yield 'ground 17: store of 32 rows', holds(
+        17, lambda self, at, g: short(at, g, 32 * at.n) or odd(g))
+    yield 'ground 17: store of M x J cells', holds(
+        17, lambda self, at, g: short(at, g, -(-at.n // at.m) * at.m * at.m) or odd(g))
+    yield 'ground 17: store not tried', holds(17, lambda self, at, g: odd(g))
+    yield 'ground 17: symbol not tried', holds(
+        17, lambda self, at, g: short(at, g, at.m * at.n))
+    yield 'ground 17: short symbol good', holds(
+        17, lambda self, at, g: short(at, g, at.m * at.n) or odd(g) and len(g.symbol) > 4096)
+    yield 'ground 17: long symbol good', holds(
+        17, lambda self, at, g: short(at, g, at.m * at.n) or odd(g) and len(g.symbol) < 4096)
+    yield 'ground 17: not tried by the fresh start', holds(
+        17, lambda self, at, g: g.symbol is not None
+        and (short(at, g, at.m * at.n) or odd(g)))
+    yield 'ground 17: one cell too few is good for the fresh start', holds(
+        17, lambda self, at, g: short(at, g, at.m * at.n - (g.symbol is None)) or odd(g))
+    yield 'ground 17: the fresh start needs M - 1 rows', holds(
+        17, lambda self, at, g: short(at, g, (at.m - (g.symbol is None)) * at.n) or odd(g))
+
+    def late(part):
+        """The ground that speaks of a part of what is given, tried after the others."""
+        return bent(refusal=lambda self, plan, given: Total.refusal(
+            self, plan, given._replace(**{part: None})) or Total.refusal(self, plan, given))
+    yield 'ground 16: row tried last', late('row')
+    yield 'ground 17: store tried last', late('store')
+    yield 'ground 17: symbol tried last', late('symbol')
+
+    yield 'the fresh start tries 17 before 16', bent(
+        fresh=lambda self, plan, phase, store:
+        self.refusal(plan, emitter.Given(phase % 128, store=store))
+        or Total.fresh(self, plan, phase, store))
+
+    def wrong_count(test):
+        return holds(18, lambda self, at, g: g.data is not None
+                     and test(len(g.data), self.count(at, g.phase), at.n))
+    yield 'ground 18: more cells good', wrong_count(lambda given, count, n: given < count)
+    yield 'ground 18: fewer cells good', wrong_count(lambda given, count, n: given > count)
+    yield 'ground 18: up to N_I cells good', wrong_count(
+        lambda given, count, n: not count <= given <= n)
+    yield 'ground 18: a flush has no cells', holds(
+        18, lambda self, at, g: g.row is not None
+        and len(g.data or []) != self.count(at, g.phase))
+
+    def wrong_cell(place):
+        """Ground 19 with another place, given the cells and the positions of
+        those that are too high."""
+        def ground_19(self, at, given):
+            return place(self, at, given, [i for i, cell in enumerate(given.data or [])
+                                           if cell > 16383])
+        return bent(ground_19=ground_19)
+
+    def cell_of(self, at, given, i):
+        free = [p for p, held in enumerate(self.placeholders(at, given.phase)) if not held]
+        return free[i]
+    yield 'ground 19: place is the highest', wrong_cell(
+        lambda self, at, g, high: high[-1] if high else None)
+    yield 'ground 19: place is 0', wrong_cell(lambda self, at, g, high: 0 if high else None)
+    yield 'ground 19: place is the cell', wrong_cell(
+        lambda self, at, g, high: cell_of(self, at, g, high[0]) if high else None)
+    yield 'ground 19: place is the subcarrier', wrong_cell(
+        lambda self, at, g, high: at.carriers[cell_of(self, at, g, high[0])] if high else None)
+    yield 'ground 19: last cell only', wrong_cell(
+        lambda self, at, g, high: high[-1] if high and high[-1] == len(g.data) - 1 else None)
+    yield 'ground 19: first cell only', wrong_cell(
+        lambda self, at, g, high: 0 if 0 in high else None)
+    yield 'ground 19: bit 14 alone', wrong_cell(
+        lambda self, at, g, high: next((i for i in high if g.data[i] & 16384), None))
+    yield 'ground 19: bit 15 alone', wrong_cell(
+        lambda self, at, g, high: next((i for i in high if g.data[i] & 32768), None))
+    yield 'ground 19: 32768 good', wrong_cell(
+        lambda self, at, g, high: next((i for i in high if g.data[i] != 32768), None))
+    yield 'ground 19: the first cell not tried', wrong_cell(
+        lambda self, at, g, high: next((i for i in high if i > 0), None))
+
+    # The plan comes first, and every entry hands on what the judge says.
+    def early(self, plan, given):
+        at = self.layout(plan)
+        if isinstance(at, tuple) and given.phase >= 128:
+            return ('refused', 16, 0)
+        return Total.refusal(self, plan, given)
+    yield 'ground 16 before the plan', bent(refusal=early)
+
+    def handed(self, plan, given):
+        answer = Total.refusal(self, plan, given)
+        return answer and (answer[0], answer[2], answer[1])
+    yield 'number and place exchanged', bent(refusal=handed)
+    for ground in range(1, 16):
+        def other_place(self, plan, given, ground=ground):
+            answer = Total.refusal(self, plan, given)
+            if answer and answer[1] == ground:
+                return (*answer[:2], answer[2] + 1)
+            return answer
+        yield 'place of %d one higher' % ground, bent(refusal=other_place)
+    for bits in (7, 8, 16):
+        yield '%d bits of the phase' % bits, bent(
+            refusal=lambda self, plan, given, low=1 << bits: Total.refusal(
+                self, plan, given._replace(phase=given.phase % low)))
+
+
+def all_mutants():
+    yield 'nothing', bent()
+    for mutants in (limit_mutants, shortcut_mutants, refused_mutants, fresh_mutants,
+                    reading_mutants, delay_mutants, mark_mutants, data_mutants, store_mutants,
+                    state_mutants, ground_mutants):
+        yield from mutants()
+
+
+def try_mutants(cases, lines):
+    """Prints which line each mutant changes first.  Answers how many change
+    none, or change one though they are equivalent.  The equivalent ones are tried
+    on the first 40 cases, which come before the larger plans."""
+    names = set()
+    killed = survived = wrong = 0
+    for name, model in all_mutants():
+        assert name not in names, 'two mutants named ' + name
+        names.add(name)
+        tried = zip(cases[:40] if name in EQUIVALENT else cases, lines)
+        changed = next((case[0] for case, want in tried
+                        if line_of(model, *case[1:4]) != want), None)
+        killed += changed is not None
+        survived += changed is None and name not in EQUIVALENT
+        wrong += (changed is None) != (name in EQUIVALENT)
+        verdict = ('killed     ' if changed else 'equivalent ' if name in EQUIVALENT
+                   else 'SURVIVED   ')
+        print('%s%-62s %s' % (verdict, name, changed or EQUIVALENT.get(name, '')), flush=True)
+    assert set(EQUIVALENT) <= names, 'a listed mutant that is none'
+    print('%d mutants, %d killed, %d equivalent, %d survived; %d cases'
+          % (len(names), killed, len(EQUIVALENT), survived, len(cases)))
+    return wrong
+
+
+# --- the run ---------------------------------------------------------------
+
+def main():
+    emitter.check_facts()
+    cases, lines, given, wanted = make()
+    print('%d cases, %d steps, %d bytes'
+          % (len(cases), sum(len(case[3]) for case in cases), len(given)))
+    wrong = 0
+    if '--check' in sys.argv[1:]:
+        for path, want in ((STDIN, given), (STDOUT, wanted)):
+            if not path.exists() or path.read_bytes() != want:
+                print('differs: %s' % path.relative_to(ROOT))
+                wrong = 1
+    if '--mutants' in sys.argv[1:]:
+        wrong += try_mutants(cases, lines)
+    if len(sys.argv) == 1:
+        STDIN.parent.mkdir(parents=True, exist_ok=True)
+        STDIN.write_bytes(given)
+        STDOUT.write_bytes(wanted)
+    sys.exit(1 if wrong else 0)
+
+
+if __name__ == '__main__':
+    main()
