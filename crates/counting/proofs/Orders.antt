@@ -1,6 +1,6 @@
 -- A sum over all numbers below n is the same in any order; so a count over all phases does not depend on where it starts. Assumes nothing.
 use Prim.Native.Nat.{ℕ, zero, suc, _+_, _*_, _%_, _/_, _≤_, _<_}
-use mathlib.Core.Path.{_≡_, refl, sym, ap, _∙_}
+use mathlib.Core.Path.{_≡_, refl, sym, _∙_}
 use mathlib.Core.Logic.{by-cases}
 use native.Mathlib.Nat.{mod-lt, zero-mul, one-mul, div-add-mod, mul-le-mul-left}
 use native.Mathlib.Decide.{decLt, decLe}

@@ -1,14 +1,14 @@
 -- The rank by counting a key is a bijection of the numbers below n, for any key with no two of them alike. Assumes nothing.
-use Prim.Native.Nat.{ℕ, suc, _+_, _≤_, _<_}
+use Prim.Native.Nat.{ℕ, _≤_, _<_}
 use mathlib.Core.Path.{_≡_, refl, sym, ap, _∙_}
 use mathlib.Core.Bool.{Bool, true, false}
 use native.Mathlib.Decide.{decLt}
 use native.Mathlib.Omega.{arith}
 use lib.Dec.{ltb, eqb}
 use borrow.Author.Tests.{ltb-true, lt-ltb, le-ltb, eqb-true, eq-eqb, ne-eqb}
-use Rattle.counting.specs.Search.{bit, sum, count, find, rank, ofRank}
+use Rattle.counting.specs.Search.{bit, sum, count, rank, ofRank}
 use Rattle.counting.proofs.Laws.{count-mono-lt}
-use Rattle.counting.proofs.Sums.{sum-cong, sum-swap, sum-const, count-eq, count-le-one, all-one, Found, find-found, find-counted}
+use Rattle.counting.proofs.Sums.{sum-cong, sum-swap, sum-const, count-eq, count-le-one, all-one, Found, find-counted}
 
 -- no two numbers below n have one image
 abbrev pub InjBelow : ℕ → (ℕ → ℕ) → Type 0

@@ -10,7 +10,6 @@ use native.Mathlib.Omega.{arith}
 use lib.Dec.{eqb}
 use borrow.Author.Tests.{eq-eqb, ne-eqb}
 use Rattle.counting.specs.Search.{bit, pick, sum, count, when, orElse, highest, find}
-use Rattle.counting.proofs.Laws.{bit-le}
 
 pub bit-not : (b : Bool) → bit b + bit (not b) ≡ 1
 bit-not true = refl

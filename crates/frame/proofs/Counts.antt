@@ -1,7 +1,7 @@
 -- Over all phases each cell is a placeholder once, so the data cells of 128 successive symbols number 127 times N_I. Assumes nothing.
 use Prim.Native.Nat.{ℕ, _+_, _-_, _*_, _%_, _<_}
-use mathlib.Core.Path.{_≡_, refl, sym, ap, _∙_}
-use mathlib.Core.Bool.{Bool, true, false, not, _&&_}
+use mathlib.Core.Path.{_≡_, sym, ap, _∙_}
+use mathlib.Core.Bool.{true}
 use native.Mathlib.Nat.{mul-comm, add-comm, zero-mul}
 use native.Mathlib.Omega.{arith}
 use Rattle.counting.specs.Search.{bit, sum, count}

@@ -15,9 +15,6 @@ use Rattle.grounds.specs.Order.{ground15}
 use Rattle.grounds.proofs.Laws.{whole, halt, zeros-is}
 use Rattle.grounds.proofs.ground_15.Statement.{statement}
 use Rattle.grounds.proofs.ground_15.Tie as tie
-use Rattle.grounds.proofs.ground_15.Reads as reads
-use Rattle.grounds.proofs.ground_15.Lts as lts
-use Rattle.grounds.proofs.zeros.Reads as zeros-reads
 
 zeros-requires : tie.Need-zeros-requires
 zeros-requires c κs = search needs

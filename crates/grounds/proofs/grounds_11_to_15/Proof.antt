@@ -14,11 +14,6 @@ use Rattle.bands.proofs.Grounds.{much-in-is}
 use Rattle.grounds.proofs.Laws.{stop, pass}
 use Rattle.grounds.proofs.grounds_11_to_15.Statement.{statement}
 use Rattle.grounds.proofs.grounds_11_to_15.Tie as tie
-use Rattle.grounds.proofs.grounds_11_to_15.Reads as reads
-use Rattle.grounds.proofs.grounds_11_to_15.Lts as lts
-use Rattle.grounds.proofs.grounds_13_to_15.Reads as grounds-13-to-15-reads
-use Rattle.grounds.proofs.much.Reads as much-reads
-use Rattle.bands.proofs.first_much.Reads as first-much-reads
 
 much-requires : tie.Need-much-requires
 much-requires c κs = search needs

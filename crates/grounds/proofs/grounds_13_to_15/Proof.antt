@@ -12,10 +12,6 @@ use Rattle.bands.proofs.Grounds.{window-is}
 use Rattle.grounds.proofs.Laws.{stop, pass}
 use Rattle.grounds.proofs.grounds_13_to_15.Statement.{statement}
 use Rattle.grounds.proofs.grounds_13_to_15.Tie as tie
-use Rattle.grounds.proofs.grounds_13_to_15.Reads as reads
-use Rattle.grounds.proofs.grounds_13_to_15.Lts as lts
-use Rattle.grounds.proofs.ground_15.Reads as ground-15-reads
-use Rattle.bands.proofs.first_window.Reads as first-window-reads
 
 first-window-requires : tie.Need-first-window-requires
 first-window-requires c κs = search needs

@@ -14,12 +14,6 @@ use Rattle.bands.proofs.Grounds.{narrow-is, wide-is}
 use Rattle.grounds.proofs.Laws.{stop, pass}
 use Rattle.grounds.proofs.grounds_9_to_15.Statement.{statement}
 use Rattle.grounds.proofs.grounds_9_to_15.Tie as tie
-use Rattle.grounds.proofs.grounds_9_to_15.Reads as reads
-use Rattle.grounds.proofs.grounds_9_to_15.Lts as lts
-use Rattle.grounds.proofs.grounds_11_to_15.Reads as grounds-11-to-15-reads
-use Rattle.bands.proofs.bands.Reads as bands-reads
-use Rattle.bands.proofs.first_narrow.Reads as first-narrow-reads
-use Rattle.bands.proofs.first_wide.Reads as first-wide-reads
 
 bands-requires : tie.Need-bands-requires
 bands-requires c κs = search needs

@@ -12,9 +12,6 @@ use Rattle.counting.specs.Runs.{Run, before}
 use Rattle.grounds.proofs.Span.{inner-more, inner-last}
 use Rattle.grounds.proofs.inner.Statement.{statement}
 use Rattle.grounds.proofs.inner.Tie as tie
-use Rattle.grounds.proofs.inner.Reads as reads
-use Rattle.grounds.proofs.inner.Lts as lts
-use Rattle.counting.proofs.wide.Reads as wide-reads
 
 abbrev Inv-loop : tie.InvT-loop
 Inv-loop plan lo hi n sum₀ i₀ sum i = (1 ≤ i) × (i + 1 ≤ n) × (sum + count (excluded (planOf plan)) (getD hi 0 0) ≡ count (excluded (planOf plan)) (before hi i))

@@ -3,10 +3,6 @@ use borrow.Author.Needs.{needs}
 use Rattle.grounds.proofs.Span.{much-is}
 use Rattle.grounds.proofs.much.Statement.{statement}
 use Rattle.grounds.proofs.much.Tie as tie
-use Rattle.grounds.proofs.much.Reads as reads
-use Rattle.grounds.proofs.much.Lts as lts
-use Rattle.grounds.proofs.inner.Reads as inner-reads
-use Rattle.counting.proofs.wide.Reads as wide-reads
 
 inner-requires : tie.Need-inner-requires
 inner-requires c κs = search needs

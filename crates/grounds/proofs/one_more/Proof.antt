@@ -8,8 +8,6 @@ use borrow.Author.Tests.{eq-eqb, ne-eqb}
 use Rattle.counting.specs.Search.{bit}
 use Rattle.grounds.proofs.one_more.Statement.{statement}
 use Rattle.grounds.proofs.one_more.Tie as tie
-use Rattle.grounds.proofs.one_more.Reads as reads
-use Rattle.grounds.proofs.one_more.Lts as lts
 
 add-result : tie.Need-add-result
 add-result c = search needs

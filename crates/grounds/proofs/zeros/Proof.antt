@@ -11,9 +11,6 @@ use Rattle.counting.proofs.Laws.{count-le}
 use Rattle.grounds.specs.Order.{isZero}
 use Rattle.grounds.proofs.zeros.Statement.{statement}
 use Rattle.grounds.proofs.zeros.Tie as tie
-use Rattle.grounds.proofs.zeros.Reads as reads
-use Rattle.grounds.proofs.zeros.Lts as lts
-use Rattle.grounds.proofs.one_more.Reads as one-more-reads
 
 abbrev Inv-loop : tie.InvT-loop
 Inv-loop m size n₀ k₀ n k = (k ≤ size) × (n ≡ count (isZero m) k)

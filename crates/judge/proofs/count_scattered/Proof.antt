@@ -12,8 +12,6 @@ use Rattle.marks.proofs.Marks.{zero-ranked}
 use Rattle.judge.proofs.Counts.{Counted, counted-start, counted-on, counted-few, all-counted}
 use Rattle.judge.proofs.count_scattered.Statement.{statement}
 use Rattle.judge.proofs.count_scattered.Tie as tie
-use Rattle.judge.proofs.count_scattered.Reads as reads
-use Rattle.judge.proofs.count_scattered.Lts as lts
 
 abbrev Inv-loop : tie.InvT-loop
 Inv-loop d plan m l j n₀ k₀ n k = Counted d (planOf plan) j n k

@@ -7,10 +7,6 @@ use Rattle.rules.proofs.Sizes.{khz50-fits}
 use Rattle.rules.specs.Grounds.{verdict}
 use Rattle.judge.proofs.judge.Statement.{statement}
 use Rattle.judge.proofs.judge.Tie as tie
-use Rattle.judge.proofs.judge.Reads as reads
-use Rattle.judge.proofs.judge.Lts as lts
-use Rattle.judge.proofs.study.Reads as study-reads
-use Rattle.rules.proofs.khz50_device.Reads as khz50-device-reads
 
 khz50-device-requires : tie.Need-khz50-device-requires
 khz50-device-requires c κs = search needs

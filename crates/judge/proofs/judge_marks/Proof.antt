@@ -10,10 +10,6 @@ use Rattle.judge.specs.Studied.{StudiedIf}
 use Rattle.judge.proofs.Verdicts.{marks-if}
 use Rattle.judge.proofs.judge_marks.Statement.{statement}
 use Rattle.judge.proofs.judge_marks.Tie as tie
-use Rattle.judge.proofs.judge_marks.Reads as reads
-use Rattle.judge.proofs.judge_marks.Lts as lts
-use Rattle.judge.proofs.study.Reads as study-reads
-use Rattle.rules.proofs.khz50_device.Reads as khz50-device-reads
 
 khz50-device-requires : tie.Need-khz50-device-requires
 khz50-device-requires c κs = search needs

@@ -12,11 +12,6 @@ use Rattle.judge.specs.Studied.{StudiedIf}
 use Rattle.judge.proofs.EntryAnswers.{role-refused, role-left}
 use Rattle.judge.proofs.role.Statement.{statement}
 use Rattle.judge.proofs.role.Tie as tie
-use Rattle.judge.proofs.role.Reads as reads
-use Rattle.judge.proofs.role.Lts as lts
-use Rattle.judge.proofs.role_in.Reads as role-in-reads
-use Rattle.judge.proofs.study.Reads as study-reads
-use Rattle.rules.proofs.khz50_device.Reads as khz50-device-reads
 
 khz50-device-requires : tie.Need-khz50-device-requires
 khz50-device-requires c κs = search needs

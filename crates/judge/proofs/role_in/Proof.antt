@@ -8,11 +8,6 @@ use Rattle.rules.specs.Roles.{predefined}
 use Rattle.judge.proofs.EntryAnswers.{role-out-subcarrier, role-out-phase, role-is}
 use Rattle.judge.proofs.role_in.Statement.{statement}
 use Rattle.judge.proofs.role_in.Tie as tie
-use Rattle.judge.proofs.role_in.Reads as reads
-use Rattle.judge.proofs.role_in.Lts as lts
-use Rattle.marks.proofs.pilots_of.Reads as pilots-of-reads
-use Rattle.marks.proofs.role_test.Reads as role-test-reads
-use Rattle.plan.proofs.number_at.Reads as number-at-reads
 
 returns : tie.Need-returns
 returns c =

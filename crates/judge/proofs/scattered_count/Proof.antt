@@ -15,12 +15,6 @@ use Rattle.judge.specs.Studied.{Studied, StudiedIf}
 use Rattle.judge.proofs.EntryAnswers.{count-refused, count-late, count-left}
 use Rattle.judge.proofs.scattered_count.Statement.{statement}
 use Rattle.judge.proofs.scattered_count.Tie as tie
-use Rattle.judge.proofs.scattered_count.Reads as reads
-use Rattle.judge.proofs.scattered_count.Lts as lts
-use Rattle.judge.proofs.count_scattered.Reads as count-scattered-reads
-use Rattle.judge.proofs.study.Reads as study-reads
-use Rattle.plan.proofs.number_at.Reads as number-at-reads
-use Rattle.rules.proofs.khz50_device.Reads as khz50-device-reads
 
 -- what is known of an accepted plan
 studied : (c : tie.After-enum-told) → Studied (c .before .before .before .before .khz50-device .result) (c .before .before .before .before .before .before .args .plan .now) (c .before .before .study .last .1 .1 .0)

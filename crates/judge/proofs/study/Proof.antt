@@ -9,10 +9,6 @@ use Rattle.plan.specs.Noted.{findingOf, Filled}
 use Rattle.judge.proofs.Verdicts.{verdict-chain}
 use Rattle.judge.proofs.study.Statement.{statement}
 use Rattle.judge.proofs.study.Tie as tie
-use Rattle.judge.proofs.study.Reads as reads
-use Rattle.judge.proofs.study.Lts as lts
-use Rattle.judge.proofs.study_tables.Reads as study-tables-reads
-use Rattle.plan.proofs.walk_chain.Reads as walk-chain-reads
 
 walk-chain-requires : tie.Need-walk-chain-requires
 walk-chain-requires c κs =

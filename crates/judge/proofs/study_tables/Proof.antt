@@ -8,12 +8,6 @@ use Rattle.judge.proofs.Edges.{ready, edges}
 use Rattle.judge.proofs.Verdicts.{verdict-early, verdict-late, studied-if}
 use Rattle.judge.proofs.study_tables.Statement.{statement}
 use Rattle.judge.proofs.study_tables.Tie as tie
-use Rattle.judge.proofs.study_tables.Reads as reads
-use Rattle.judge.proofs.study_tables.Lts as lts
-use Rattle.grounds.proofs.grounds_9_to_15.Reads as grounds-9-to-15-reads
-use Rattle.marks.proofs.grounds_6_to_8.Reads as grounds-6-to-8-reads
-use Rattle.plan.proofs.number_at.Reads as number-at-reads
-use Rattle.ranges.proofs.runs.Reads as runs-reads
 
 -- what grounds 6 to 8 are tried on
 prepared : (c : tie.After-grounds-6-to-8-arg) →

@@ -2,9 +2,6 @@
 use borrow.Author.Needs.{needs}
 use Rattle.plancases.proofs.main.Statement.{statement}
 use Rattle.plancases.proofs.main.Tie as tie
-use Rattle.plancases.proofs.main.Reads as reads
-use Rattle.plancases.proofs.main.Lts as lts
-use Rattle.plancases.proofs.one_case.Reads as one-case-reads
 
 abbrev Inv-loop : tie.InvT-loop
 Inv-loop left₀ left = Unit {0}

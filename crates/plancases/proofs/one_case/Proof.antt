@@ -5,12 +5,6 @@ use lib.Seq.{length-take-le}
 use borrow.Author.Needs.{needs}
 use Rattle.plancases.proofs.one_case.Statement.{statement}
 use Rattle.plancases.proofs.one_case.Tie as tie
-use Rattle.plancases.proofs.one_case.Reads as reads
-use Rattle.plancases.proofs.one_case.Lts as lts
-use Rattle.io.proofs.large_buffer.Reads as large-buffer-reads
-use Rattle.io.proofs.read_full.Reads as read-full-reads
-use Rattle.plancases.proofs.judge_case.Reads as judge-case-reads
-use Rattle.plancases.proofs.length_of.Reads as length-of-reads
 
 slice-aggregate-read-full : tie.Need-slice-aggregate-read-full
 slice-aggregate-read-full c = search needs

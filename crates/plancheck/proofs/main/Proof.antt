@@ -2,13 +2,6 @@
 use borrow.Author.Needs.{needs}
 use Rattle.plancheck.proofs.main.Statement.{statement}
 use Rattle.plancheck.proofs.main.Tie as tie
-use Rattle.plancheck.proofs.main.Reads as reads
-use Rattle.plancheck.proofs.main.Lts as lts
-use Rattle.io.proofs.large_buffer.Reads as large-buffer-reads
-use Rattle.io.proofs.read_full.Reads as read-full-reads
-use Rattle.io.proofs.write_all.Reads as write-all-reads
-use Rattle.plancheck.proofs.read_on.Reads as read-on-reads
-use Rattle.report.proofs.plan_line.Reads as plan-line-reads
 
 abbrev Inv-loop : tie.InvT-loop
 Inv-loop n len left₀ left = Unit {0}

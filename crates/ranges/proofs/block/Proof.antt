@@ -8,9 +8,6 @@ use lib.ListN.{length}
 use Rattle.ranges.specs.Swept.{Sweep}
 use Rattle.ranges.proofs.block.Statement.{statement}
 use Rattle.ranges.proofs.block.Tie as tie
-use Rattle.ranges.proofs.block.Reads as reads
-use Rattle.ranges.proofs.block.Lts as lts
-use Rattle.ranges.proofs.step.Reads as step-reads
 
 abbrev Inv-loop : tie.InvT-loop
 Inv-loop reach size from lo₀ hi₀ p₀ k₀ lo hi p k = Sweep reach size lo hi (p .n) (p .s) (p .e) k × (length lo ≡ 2048) × (length hi ≡ 2048) × (from ≤ k) × (k ≤ from + 16)

@@ -6,8 +6,6 @@ use native.Mathlib.Omega.{arith}
 use Rattle.ranges.proofs.SweepLaws.{close-some, close-none}
 use Rattle.ranges.proofs.close.Statement.{statement}
 use Rattle.ranges.proofs.close.Tie as tie
-use Rattle.ranges.proofs.close.Reads as reads
-use Rattle.ranges.proofs.close.Lts as lts
 
 cast-lo : tie.Need-cast-lo
 cast-lo c = search needs

@@ -10,9 +10,6 @@ use Rattle.ranges.specs.Reach.{NotedIf}
 use Rattle.ranges.proofs.NoteLaws.{note-none, note-keep, note-store}
 use Rattle.ranges.proofs.note_if.Statement.{statement}
 use Rattle.ranges.proofs.note_if.Tie as tie
-use Rattle.ranges.proofs.note_if.Reads as reads
-use Rattle.ranges.proofs.note_if.Lts as lts
-use Rattle.counting.proofs.wide.Reads as wide-reads
 
 returns : tie.Need-returns
 returns c =

@@ -9,10 +9,6 @@ use Rattle.ranges.specs.Swept.{Sweep}
 use Rattle.ranges.proofs.SweepLaws.{sweep-start, sweep-skip, sweep-end}
 use Rattle.ranges.proofs.runs.Statement.{statement}
 use Rattle.ranges.proofs.runs.Tie as tie
-use Rattle.ranges.proofs.runs.Reads as reads
-use Rattle.ranges.proofs.runs.Lts as lts
-use Rattle.ranges.proofs.block.Reads as block-reads
-use Rattle.ranges.proofs.close.Reads as close-reads
 
 abbrev Inv-loop : tie.InvT-loop
 Inv-loop reach hot size lo₀ hi₀ o₀ b₀ lo hi o b = Sweep reach size lo hi (o .n) (o .s) (o .e) (16 * b) × (length lo ≡ 2048) × (length hi ≡ 2048) × (16 * b ≤ size) × (b ≤ 256)

@@ -8,10 +8,6 @@ use lib.ListN.{getD}
 use Rattle.ranges.proofs.SweepLaws.{sweep-grow, sweep-new, past-some}
 use Rattle.ranges.proofs.step.Statement.{statement}
 use Rattle.ranges.proofs.step.Tie as tie
-use Rattle.ranges.proofs.step.Reads as reads
-use Rattle.ranges.proofs.step.Lts as lts
-use Rattle.ranges.proofs.close.Reads as close-reads
-use Rattle.counting.proofs.wide.Reads as wide-reads
 
 mul-wide : tie.Need-mul-wide
 mul-wide c = search needs

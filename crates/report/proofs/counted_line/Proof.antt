@@ -4,11 +4,6 @@ use mathlib.Core.Path.{sym, _∙_}
 use Rattle.report.proofs.PlanLines.{ok-plan, not-refused}
 use Rattle.report.proofs.counted_line.Statement.{statement}
 use Rattle.report.proofs.counted_line.Tie as tie
-use Rattle.report.proofs.counted_line.Reads as reads
-use Rattle.report.proofs.counted_line.Lts as lts
-use Rattle.judge.proofs.scattered_count.Reads as scattered-count-reads
-use Rattle.report.proofs.ok_line.Reads as ok-line-reads
-use Rattle.report.proofs.refused_line.Reads as refused-line-reads
 
 scattered-count-requires : tie.Need-scattered-count-requires
 scattered-count-requires c κs = search needs

@@ -4,11 +4,6 @@ use mathlib.Core.Path.{sym, _∙_}
 use Rattle.report.proofs.PlanLines.{refused-plan}
 use Rattle.report.proofs.plan_line.Statement.{statement}
 use Rattle.report.proofs.plan_line.Tie as tie
-use Rattle.report.proofs.plan_line.Reads as reads
-use Rattle.report.proofs.plan_line.Lts as lts
-use Rattle.judge.proofs.judge.Reads as judge-reads
-use Rattle.report.proofs.counted_line.Reads as counted-line-reads
-use Rattle.report.proofs.refused_line.Reads as refused-line-reads
 
 judge-requires : tie.Need-judge-requires
 judge-requires c κs = search needs
