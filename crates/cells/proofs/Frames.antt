@@ -20,7 +20,7 @@ use Rattle.rules.specs.Frame.{Frame, cells, cellRank, carrier, spot, holder, he
 use Rattle.frame.proofs.House.{houseKey-inj, rank-columns}
 use Rattle.cells.specs.Loops.{stores, rank7, cell7, meets}
 use Rattle.cells.specs.Tied.{Tied, Turning}
-use Rattle.cells.proofs.Rows.{below7, cell-below7, rank-cell7}
+use Rattle.cells.proofs.RowLaws.{below7, cell-below7, rank-cell7}
 use Rattle.cells.proofs.Stores.{length-stores, stores-hit, stores-miss}
 
 -- a frame has no more cells than subcarriers, and no more data cells than cells

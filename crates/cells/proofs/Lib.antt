@@ -1,6 +1,6 @@
 pub mod Walk
 pub mod Residues
-pub mod Rows
+pub mod RowLaws
 pub mod Turns
 pub mod Stores
 pub mod Frames

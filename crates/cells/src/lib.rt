@@ -9,10 +9,13 @@ ghost use Rattle.counting.specs.Search.{bit, count, select, isZero};
 ghost use Rattle.rules.specs.Device.{khz50};
 ghost use Rattle.rules.specs.Plan.{planOf};
 ghost use Rattle.rules.specs.Fits.{Fits};
-ghost use Rattle.rules.specs.Frame.{reversed, frameOf, cells, carrier, spot, held, dataCount, lineSymbol};
+ghost use Rattle.rules.specs.Frame.{frameOf, cells, carrier, spot, held, dataCount, lineSymbol};
 ghost use Rattle.rules.specs.Steps.{frameCount, dataCountAnswer};
 ghost use Rattle.judge.specs.Studied.{Studied};
 ghost use Rattle.cells.specs.Loops.{stores, rank7, cell7, meets};
+
+mod rows;
+
 use counting::wide;
 use rules::CountAnswer;
 use rules::Device;
@@ -21,155 +24,8 @@ use rules::Verdict;
 // Phases are 0 to 127.
 const PHASES: usize = 128;
 
-// The order of the 128 rows: the i-th row read is i with its seven bits reversed.
-const ROWS: [u8; 128] = [
-    0,
-    64,
-    32,
-    96,
-    16,
-    80,
-    48,
-    112,
-    8,
-    72,
-    40,
-    104,
-    24,
-    88,
-    56,
-    120,
-    4,
-    68,
-    36,
-    100,
-    20,
-    84,
-    52,
-    116,
-    12,
-    76,
-    44,
-    108,
-    28,
-    92,
-    60,
-    124,
-    2,
-    66,
-    34,
-    98,
-    18,
-    82,
-    50,
-    114,
-    10,
-    74,
-    42,
-    106,
-    26,
-    90,
-    58,
-    122,
-    6,
-    70,
-    38,
-    102,
-    22,
-    86,
-    54,
-    118,
-    14,
-    78,
-    46,
-    110,
-    30,
-    94,
-    62,
-    126,
-    1,
-    65,
-    33,
-    97,
-    17,
-    81,
-    49,
-    113,
-    9,
-    73,
-    41,
-    105,
-    25,
-    89,
-    57,
-    121,
-    5,
-    69,
-    37,
-    101,
-    21,
-    85,
-    53,
-    117,
-    13,
-    77,
-    45,
-    109,
-    29,
-    93,
-    61,
-    125,
-    3,
-    67,
-    35,
-    99,
-    19,
-    83,
-    51,
-    115,
-    11,
-    75,
-    43,
-    107,
-    27,
-    91,
-    59,
-    123,
-    7,
-    71,
-    39,
-    103,
-    23,
-    87,
-    55,
-    119,
-    15,
-    79,
-    47,
-    111,
-    31,
-    95,
-    63,
-    127,
-];
-
-// A byte as an index.
-fn octet(x: u8) -> usize
-    ensures { λ r. ⌜ r ≡ x ⌝ }
-{
-    x as usize
-}
-
-// The i-th row read.
-pub fn row_of(i: usize) -> usize
-    requires { ⌜ i < 128 ⌝ }
-    ensures { λ r. ⌜ r ≡ reversed 7 i ⌝ }
-{
-    octet(ROWS[i])
-}
-
 // The subcarrier of each cell, from the subcarriers by rank.
-pub fn cell_carriers(car: &[u16], kc: &mut [u16])
+fn cell_carriers(car: &[u16], kc: &mut [u16])
     requires { ⌜ (length (now kc) ≤ 4096) × (length (now kc) ≤ length (now car)) ⌝ }
     ensures { λ _. ⌜ ((p : ℕ) → p < length (now (kc .entry)) → getD (now (kc .exit)) p 0 ≡ getD (now (car .entry)) (rank7 (length (now (kc .entry))) p) 0) ⌝ }
 {
@@ -177,7 +33,7 @@ pub fn cell_carriers(car: &[u16], kc: &mut [u16])
     let mut rank: usize = 0;
     let mut i: usize = 0;
     while i < 128 {
-        let mut p = row_of(i);
+        let mut p = rows::row_of(i);
         while p < ni {
             kc[p] = car[rank];
             rank = rank + 1;
@@ -188,7 +44,7 @@ pub fn cell_carriers(car: &[u16], kc: &mut [u16])
 }
 
 // The cells go to the subcarriers of their ranks.
-pub fn place_rows(car: &[u16], cells: &[u16], out: &mut [u16])
+fn place_rows(car: &[u16], cells: &[u16], out: &mut [u16])
     requires { ⌜ (length (now cells) ≤ 4096) × (length (now cells) ≤ length (now car)) × ((r : ℕ) → r < length (now cells) → getD (now car) r 0 < length (now out)) ⌝ }
     ensures { λ _. ⌜ now (out .exit) ≡ stores (λ r. getD (now (car .entry)) r 0) (λ r. getD (now (cells .entry)) (cell7 (length (now (cells .entry))) r) 0) (length (now (cells .entry))) (now (out .entry)) ⌝ }
 {
@@ -196,7 +52,7 @@ pub fn place_rows(car: &[u16], cells: &[u16], out: &mut [u16])
     let mut rank: usize = 0;
     let mut i: usize = 0;
     while i < 128 {
-        let mut p = row_of(i);
+        let mut p = rows::row_of(i);
         while p < ni {
             let k = wide(car[rank]);
             out[k] = cells[p];
@@ -208,7 +64,7 @@ pub fn place_rows(car: &[u16], cells: &[u16], out: &mut [u16])
 }
 
 // Cells copied over others, as many as there are of those.
-pub fn copy(from: &[u16], to: &mut [u16])
+fn copy(from: &[u16], to: &mut [u16])
     requires { ⌜ length (now to) ≤ length (now from) ⌝ }
     ensures { λ _. ⌜ now (to .exit) ≡ take (length (now (to .entry))) (now (from .entry)) ⌝ }
 {
@@ -228,7 +84,7 @@ fn one_if_zero(x: u16) -> usize
 }
 
 // The subcarriers with a rank in rising order, and their number. Each is stored; the next one takes its place where it has no rank.
-pub fn carriers(mark: &[u16], width: usize, car: &mut [u16]) -> usize
+fn carriers(mark: &[u16], width: usize, car: &mut [u16]) -> usize
     requires { ⌜ (width ≤ 4096) × (width ≤ length (now mark)) × (width ≤ length (now car)) ⌝ }
     ensures number { λ r. ⌜ r ≡ count (isZero (now (mark .entry))) width ⌝ }
     ensures listed { λ r. ⌜ ((i : ℕ) → i < r → getD (now (car .exit)) i 0 ≡ select (isZero (now (mark .entry))) width i) ⌝ }
@@ -245,7 +101,7 @@ pub fn carriers(mark: &[u16], width: usize, car: &mut [u16]) -> usize
 
 // Flags the cells whose subcarrier is scattered when they are sent, and counts them, one delay after the other. At the symbol's own
 // phase the pattern stands on the subcarriers that are `base` modulo 128.
-pub fn holders(m: usize, base: usize, kc: &[u16], flag: &mut [u8]) -> usize
+fn holders(m: usize, base: usize, kc: &[u16], flag: &mut [u8]) -> usize
     requires { ⌜ (0 < m) × (m ≤ 4096) × (base ≤ 65535) × (length (now kc) ≤ 4096) × (length (now kc) ≤ length (now flag)) × ((p : ℕ) → p < length (now kc) → getD (now flag) p 0 ≡ 0) ⌝ }
     ensures flags { λ r. ⌜ ((p : ℕ) → p < length (now (kc .entry)) → getD (now (flag .exit)) p 0 ≡ bit (meets base m (now (kc .entry)) p)) ⌝ }
     ensures number { λ r. ⌜ r ≡ count (meets base m (now (kc .entry))) (length (now (kc .entry))) ⌝ }

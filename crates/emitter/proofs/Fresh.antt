@@ -32,12 +32,12 @@ put-part s ys a n e h =
     ap (λ (r : List ℕ). take a s ++ (ys ++ r)) (drop-drop (a + n - a) a s ∙ ap (λ (i : ℕ). drop i s) k)
     ∙ sym (append-assoc (take a s) ys (drop (a + length ys) s)) ∙ sym (sets-eq ys s a (omega arith))
 
--- the first n of 4,096 cells of filler
-pub filler-size : (n : ℕ) → n ≤ 4096 → length {A = ℕ} (take n (replicate 4096 filler)) ≡ n
-filler-size n h = length-take-le n (replicate 4096 filler) (omega (arith, length-replicate {A = ℕ} 4096 filler))
+-- the first n of 4,096 cells that are all v
+pub same-size : (v n : ℕ) → n ≤ 4096 → length (take n (replicate 4096 v)) ≡ n
+same-size v n h = length-take-le n (replicate 4096 v) (omega (arith, length-replicate 4096 v))
 
-pub filler-cell : (n p : ℕ) → n ≤ 4096 → p < n → getD {A = ℕ} (take n (replicate 4096 filler)) p 0 ≡ filler
-filler-cell n p l h = getD-take n (replicate 4096 filler) p 0 h ∙ getD-replicate 4096 p filler 0 (omega arith)
+pub same-cell : (v n p : ℕ) → n ≤ 4096 → p < n → getD (take n (replicate 4096 v)) p 0 ≡ v
+same-cell v n p l h = getD-take n (replicate 4096 v) p 0 h ∙ getD-replicate 4096 p v 0 (omega arith)
 
 -- a row within the store
 pub row-within : (i m n k : ℕ) → i < m → m * n ≤ k → i * n + n ≤ k

@@ -7,7 +7,7 @@ use lib.ListN.{length, getD, length-set}
 use Rattle.frame.specs.Rows.{rowsBefore}
 use Rattle.cells.specs.Loops.{rank7}
 use Rattle.cells.proofs.Walk.{Filled, filled-next}
-use Rattle.cells.proofs.Rows.{At7, first7, step7, rank-at7, low7, visit7, end7, last7, below7, rows-none}
+use Rattle.cells.proofs.RowLaws.{At7, first7, step7, rank-at7, low7, visit7, end7, last7, below7, rows-none}
 use Rattle.cells.proofs.cell_carriers.Statement.{statement}
 use Rattle.cells.proofs.cell_carriers.Tie as tie
 

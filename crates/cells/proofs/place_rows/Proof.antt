@@ -8,7 +8,7 @@ use lib.ListN.{length, getD, length-set}
 use Rattle.frame.specs.Rows.{rowsBefore}
 use Rattle.cells.specs.Loops.{stores, cell7}
 use Rattle.cells.proofs.Stores.{stores-next}
-use Rattle.cells.proofs.Rows.{At7, first7, step7, rank-at7, low7, end7, last7, cell-rank7, rows-none}
+use Rattle.cells.proofs.RowLaws.{At7, first7, step7, rank-at7, low7, end7, last7, cell-rank7, rows-none}
 use Rattle.cells.proofs.place_rows.Statement.{statement}
 use Rattle.cells.proofs.place_rows.Tie as tie
 

@@ -2,14 +2,17 @@
 use borrow.Author.Needs.{needs}
 use Prim.Native.Nat.{ℕ, _+_, _*_, _%_}
 use mathlib.Core.Path.{_≡_, refl, sym, ap, _∙_}
+use mathlib.Core.List.{List}
 use native.Mathlib.Omega.{arith}
 use lib.ListN.{length}
 use Rattle.counting.specs.Answer.{placeOf}
+use Rattle.rules.specs.declared.Finding.the-variants.{Fine}
 use Rattle.rules.specs.Device.{phases}
 use Rattle.rules.specs.Plan.{planOf}
+use Rattle.rules.specs.Grounds.{_else_}
 use Rattle.rules.specs.Frame.{Frame, frameOf, symbol, cells, lineSymbol}
 use Rattle.rules.specs.Store.{putRow, delayed, nextRow}
-use Rattle.rules.specs.Steps.{emitStep, nextState}
+use Rattle.rules.specs.Steps.{stateGround16, ground17, emitStep, nextState}
 use Rattle.fill.specs.Flags.{Flagged}
 use Rattle.fill.proofs.Inputs.{free-count, filled}
 use Rattle.emitter.proofs.Accepted.{cells-low, data-low}
@@ -26,17 +29,25 @@ deep : (c : tie.After-number-at) → c .number-at .result ≡ planOf (c .before 
 unfolding planOf
 deep c = c .number-at .ensures .0
 
--- what grounds 16 and 17 leave
+-- neither ground 16 nor 17 holds
+abbrev Passed : tie.Start → Type 0
+Passed g = Fine ≡ (stateGround16 (frame g) (g .args .state) else ground17 (frame g) (g .args .store .now) (g .args .out .now))
+
+passed : (c : tie.After-enum-told) → Passed (c .before .before .before .before .before .before .before .before .before .before .before .before .before .before)
+passed c = sym (c .enum-told .given .1) ∙ c .before .before .lent-grounds .ensures
+
+-- what that leaves
 abbrev Granted : tie.Start → Type 0
 Granted g = Lent (frame g) (g .args .state) (g .args .store .now) (g .args .out .now)
 
 granted : (c : tie.After-enum-told) → Granted (c .before .before .before .before .before .before .before .before .before .before .before .before .before .before)
-granted c =
-    let g = c .before .before .before .before .before .before .before .before .before .before .before .before .before .before in
-    lent (frame g) (g .args .state) (g .args .store .now) (g .args .out .now) (sym (c .enum-told .given .1) ∙ c .before .before .lent-grounds .ensures)
+granted c = let g = c .before .before .before .before .before .before .before .before .before .before .before .before .before .before in lent (frame g) (g .args .state) (g .args .store .now) (g .args .out .now) (passed c)
 
 -- the flags are those of the frame
-flagged : (c : tie.After-prepare) → Flagged (frame (c .before .before .before .before .before .before .before .before .before .before .before .before .before .before .before .before .before .before .before .before)) (c .before .before .before .before .before .before .before .before .before .before .before .before .before .before .before .before .before .before .before .before .args .state .phase) (c .prepare .last .1 .1 .1 .1 .1 .1 .1 .0)
+abbrev Flags : tie.Start → List ℕ → Type 0
+Flags g = Flagged (frame g) (g .args .state .phase)
+
+flagged : (c : tie.After-prepare) → Flags (c .before .before .before .before .before .before .before .before .before .before .before .before .before .before .before .before .before .before .before .before) (c .prepare .last .1 .1 .1 .1 .1 .1 .1 .0)
 flagged c = let g = c .before .before .before .before .before .before .before .before .before .before .before .before .before .before .before .before .before .before .before .before in λ p h. c .prepare .ensures .1 .1 .0 p (omega (arith, h, g .pre .2, g .pre .0 .all))
 
 number-at-requires : tie.Need-number-at-requires
@@ -62,10 +73,9 @@ unfolding emitStep
 returns c =
     let g = c .before .before .before .before .before .before .before .before .before .before .before .before .before .before .before in
     let a = g .args in
-    let F = frame g in
     let e = at (a .state) (a .store .now) in
     let s = giving (symbol (a .input .now)) (a .out .now) in
-    refused-early F e s _ _ (sym (c .before .g .given .1) ∙ c .before .before .before .lent-grounds .ensures) ∙ step-left (a .d) (a .plan .now) e s (g .pre .0 .fine)
+    refused-early (frame g) e s _ _ (sym (c .before .g .given .1) ∙ c .before .before .before .lent-grounds .ensures) ∙ step-left (a .d) (a .plan .now) e s (g .pre .0 .fine)
 
 enum-told : tie.Need-enum-told
 enum-told c = search needs
@@ -106,20 +116,18 @@ same-length-7 c = search needs
 returns-2 : tie.Need-returns-2
 unfolding emitStep
 returns-2 c =
-    let g = c .before .before .before .before .before .before .before .before .before .before .before .before .before .before .before .before .before .before .before .before .before .before .before .before .before .before .before in
+    let made = c .before .before .before .before .before .before .before in
+    let g = made .before .before .before .before .before .before .before .before .before .before .before .before .before .before .before .before .before .before .before .before in
     let a = g .args in
-    let F = frame g in
     let e = at (a .state) (a .store .now) in
     let s = giving (symbol (a .input .now)) (a .out .now) in
-    bad-number F e s (sym (c .before .before .before .before .before .before .before .before .before .before .before .before .before .enum-told .given .1) ∙ c .before .before .before .before .before .before .before .before .before .before .before .before .before .before .before .lent-grounds .ensures) (a .input .now) refl (λ z. c .if1 .taken (z ∙ sym (c .before .before .before .before .before .before .before .prepare .ensures .1 .1 .1)))
-    ∙ step-left (a .d) (a .plan .now) e s (g .pre .0 .fine)
+    bad-number (frame g) e s (passed (made .before .before .before .before .before .before)) (a .input .now) refl (λ z. c .if1 .taken (z ∙ sym (made .prepare .ensures .1 .1 .1))) ∙ step-left (a .d) (a .plan .now) e s (g .pre .0 .fine)
 
 first-over-requires : tie.Need-first-over-requires
 first-over-requires c κs =
-    let g = c .before .before .before .before .before .before .before .before .before .before .before .before .before .before .before .before .before .before .before .before .before .before .before .before .before .before .before in
-    let a = g .args in
-    let p = planOf (a .plan .now) in
-    omega (arith, c .if1 .left, c .before .before .before .before .before .before .before .prepare .ensures .1 .1 .1, data-low (frameOf (a .d) p) (a .state .phase), cells-low (a .d) p (g .pre .0 .fits))
+    let made = c .before .before .before .before .before .before .before in
+    let g = made .before .before .before .before .before .before .before .before .before .before .before .before .before .before .before .before .before .before .before .before in
+    omega (arith, c .if1 .left, made .prepare .ensures .1 .1 .1, data-low (frame g) (g .args .state .phase), cells-low (g .args .d) (planOf (g .args .plan .now)) (g .pre .0 .fits))
 
 enum-known-i : tie.Need-enum-known-i
 enum-known-i c = search needs
@@ -142,12 +150,12 @@ same-length-12 c = search needs
 returns-3 : tie.Need-returns-3
 unfolding emitStep
 returns-3 c =
-    let g = c .before .before .before .before .before .before .before .before .before .before .before .before .before .before .before .before .before .before .before .before .before .before .before .before .before .before .before .before .before .before .before in
+    let made = c .before .before .before .before .before .before .before .before .before .before .before in
+    let g = made .before .before .before .before .before .before .before .before .before .before .before .before .before .before .before .before .before .before .before .before in
     let a = g .args in
-    let F = frame g in
     let e = at (a .state) (a .store .now) in
     let s = giving (symbol (a .input .now)) (a .out .now) in
-    bad-data F e s (sym (c .before .before .before .before .before .before .before .before .before .before .before .before .before .before .before .before .before .enum-told .given .1) ∙ c .before .before .before .before .before .before .before .before .before .before .before .before .before .before .before .before .before .before .before .lent-grounds .ensures) (a .input .now) refl (c .before .before .before .before .if1 .left ∙ c .before .before .before .before .before .before .before .before .before .before .before .prepare .ensures .1 .1 .1) _ (sym (ap placeOf (c .before .i .given .1)) ∙ c .before .before .before .first-over .ensures)
+    bad-data (frame g) e s (passed (made .before .before .before .before .before .before)) (a .input .now) refl (c .before .before .before .before .if1 .left ∙ made .prepare .ensures .1 .1 .1) _ (sym (ap placeOf (c .before .i .given .1)) ∙ c .before .before .before .first-over .ensures)
     ∙ step-left (a .d) (a .plan .now) e s (g .pre .0 .fine)
 
 enum-told-2 : tie.Need-enum-told-2
@@ -155,14 +163,13 @@ enum-told-2 c = search needs
 
 fill-data-requires : tie.Need-fill-data-requires
 fill-data-requires c κs =
-    let g = c .before .before .before .before .before .before .before .before .before .before .before .before .before .before .before .before .before .before .before .before .before .before .before .before .before .before .before .before .before .before .before .before in
+    let made = c .before .before .before .before .before .before .before .before .before .before .before .before in
+    let g = made .before .before .before .before .before .before .before .before .before .before .before .before .before .before .before .before .before .before .before .before in
     let a = g .args in
-    let r = g .pre .0 in
-    let p = planOf (a .plan .now) in
-    let made = c .before .before .before .before .before .before .before .before .before .before .before .before .prepare in (
-      omega (arith, r .all, cells-low (a .d) p (r .fits)),
-      omega (arith, made .kept .1 .1 .1 .1 .1 .1 .1 .0, g .pre .3),
-      omega (arith, free-count (frameOf (a .d) p) (a .state .phase) (made .last .1 .1 .1 .1 .1 .1 .1 .0) (flagged (c .before .before .before .before .before .before .before .before .before .before .before .before)) (length (a .x .now)) (r .all), c .before .before .before .before .before .if1 .left, made .ensures .1 .1 .1),
+    let r = g .pre .0 in (
+      omega (arith, r .all, cells-low (a .d) (planOf (a .plan .now)) (r .fits)),
+      omega (arith, made .prepare .kept .1 .1 .1 .1 .1 .1 .1 .0, g .pre .3),
+      omega (arith, free-count (frame g) (a .state .phase) (made .prepare .last .1 .1 .1 .1 .1 .1 .1 .0) (flagged made) (length (a .x .now)) (r .all), c .before .before .before .before .before .if1 .left, made .prepare .ensures .1 .1 .1),
     )
 
 cast-send-out : tie.Need-cast-send-out
@@ -171,16 +178,14 @@ cast-send-out c = search needs
 send-out-requires : tie.Need-send-out-requires
 unfolding frameOf
 send-out-requires c κs =
-    let g = c .before .before .before .before .before .before .before .before .before .before .before .before .before .before .before .before .before .before .before .before .before .before .before .before .before .before .before .before .before .before .before .before .before .before .before .before .before .before .before .before in
-    let a = g .args in
+    let made = c .before .before .before .before .before .before .before .before .before .before .before .before .before .before .before .before .before .before .before .before in
+    let g = made .before .before .before .before .before .before .before .before .before .before .before .before .before .before .before .before .before .before .before .before in
     let r = g .pre .0 in
-    let F = frame g in
-    let m = deep (c .before .before .before .before .before .before .before .before .before .before .before .before .before .before .before .before .before .before .before .before .before .before .before .before .before .before .before .before .before .before .before) in
-    let w = granted (c .before .before .before .before .before .before .before .before .before .before .before .before .before .before .before .before .before .before .before .before .before .before .before .before .before .before) in
-    let made = c .before .before .before .before .before .before .before .before .before .before .before .before .before .before .before .before .before .before .before .before .prepare in
+    let m = deep (made .before .before .before .before .before .before .before .before .before .before .before) in
+    let w = granted (made .before .before .before .before .before .before) in
     let put = c .before .before .before .before .before .before .before .fill-data in
-    let size : c .before .before .before .before .before .before .before .before .before .before .before .before .before .before .before .before .before .before .before .before .before .before .before .before .before .before .before .before .before .before .before .number-at .result * length (put .last .0) ≡ F .depth * cells F = λ i. m i * (put .kept .0 ∙ r .all) i in
-    (r .fits, r .studied, omega (arith, m, w .row-in), omega (arith, m, r .shallow), put .kept .0 ∙ r .all, omega (arith, size, w .rows-fit), w .whole, made .kept .1 .1 .1 .1 .1 .0 ∙ g .pre .1, λ i h. made .ensures .0 i (omega (arith, h, put .kept .0, g .pre .2)))
+    let size : made .before .before .before .before .before .before .before .before .before .before .before .number-at .result * length (put .last .0) ≡ frame g .depth * cells (frame g) = λ i. m i * (put .kept .0 ∙ r .all) i in
+    (r .fits, r .studied, omega (arith, m, w .row-in), omega (arith, m, r .shallow), put .kept .0 ∙ r .all, omega (arith, size, w .rows-fit), w .whole, made .prepare .kept .1 .1 .1 .1 .1 .0 ∙ g .pre .1, λ i h. made .prepare .ensures .0 i (omega (arith, h, put .kept .0, g .pre .2)))
 
 same-length-13 : tie.Need-same-length-13
 same-length-13 c = search needs
@@ -203,21 +208,23 @@ same-length-18 c = search needs
 returns-4 : tie.Need-returns-4
 unfolding emitStep frameOf nextState
 returns-4 c =
-    let g = c .before .before .before .before .before .before .before .before .before .before .before .before .before .before .before .before .before .before .before .before .before .before .before .before .before .before .before .before .before .before .before .before .before .before .before .before .before .before .before .before .before .before .before .before .before .before .before in
+    let made = c .before .before .before .before .before .before .before .before .before .before .before .before .before .before .before .before .before .before .before .before .before .before .before .before .before .before .before in
+    let g = made .before .before .before .before .before .before .before .before .before .before .before .before .before .before .before .before .before .before .before .before in
     let a = g .args in
     let r = g .pre .0 in
     let F = frame g in
     let e = at (a .state) (a .store .now) in
     let s = giving (symbol (a .input .now)) (a .out .now) in
-    let m = deep (c .before .before .before .before .before .before .before .before .before .before .before .before .before .before .before .before .before .before .before .before .before .before .before .before .before .before .before .before .before .before .before .before .before .before .before .before .before .before) in
+    let m = deep (made .before .before .before .before .before .before .before .before .before .before .before) in
     let put = c .before .before .before .before .before .before .before .before .before .before .before .before .before .before .fill-data in
     let x = put .last .0 in
     let go = c .before .before .before .before .before .before .send-out in
-    sent F e s (good-data F e s (sym (c .before .before .before .before .before .before .before .before .before .before .before .before .before .before .before .before .before .before .before .before .before .before .before .before .before .before .before .before .before .before .before .before .before .enum-told .given .1) ∙ c .before .before .before .before .before .before .before .before .before .before .before .before .before .before .before .before .before .before .before .before .before .before .before .before .before .before .before .before .before .before .before .before .before .before .before .lent-grounds .ensures) (a .input .now) refl (c .before .before .before .before .before .before .before .before .before .before .before .before .before .before .before .before .before .before .before .before .if1 .left ∙ c .before .before .before .before .before .before .before .before .before .before .before .before .before .before .before .before .before .before .before .before .before .before .before .before .before .before .before .prepare .ensures .1 .1 .1) (sym (ap placeOf (c .before .before .before .before .before .before .before .before .before .before .before .before .before .before .before .before .before .enum-told2 .given .1)) ∙ c .before .before .before .before .before .before .before .before .before .before .before .before .before .before .before .before .before .before .before .first-over .ensures))
+    let none = sym (ap placeOf (c .before .before .before .before .before .before .before .before .before .before .before .before .before .before .before .before .before .enum-told2 .given .1)) ∙ c .before .before .before .before .before .before .before .before .before .before .before .before .before .before .before .before .before .before .before .first-over .ensures in
+    sent F e s (good-data F e s (passed (made .before .before .before .before .before .before)) (a .input .now) refl (c .before .before .before .before .before .before .before .before .before .before .before .before .before .before .before .before .before .before .before .before .if1 .left ∙ made .prepare .ensures .1 .1 .1) none)
     x (go .last .1 .1 .1 .1 .1 .1 .0) (go .last .1 .1 .1 .1 .1 .1 .1 .1 .0) (length x) _ (put .kept .0 ∙ r .all)
-    (filled F (a .state .phase) _ (flagged (c .before .before .before .before .before .before .before .before .before .before .before .before .before .before .before .before .before .before .before .before .before .before .before .before .before .before .before)) (a .input .now) x (length (a .x .now)) (r .all) (put .ensures))
+    (filled F (a .state .phase) _ (flagged made) (a .input .now) x (length (a .x .now)) (r .all) (put .ensures))
     (go .ensures .0) (go .ensures .1 ∙ ap (λ (k : ℕ). lineSymbol F (delayed k (length x) (λ p. p % k) (putRow (length x) (a .store .now) (a .state .row) x) (a .state .row))) m)
-    (c .before .before .before .before .before .before .before .before .before .before .before .before .before .before .before .before .before .before .before .before .before .before .before .before .before .before .before .before .before .before .before .before .next-state .ensures ∙ (λ i. record { phase = (a .state .phase + 1) % phases; row = nextRow (m i) (a .state .row) }))
+    (made .before .before .before .before .before .next-state .ensures ∙ (λ i. record { phase = (a .state .phase + 1) % phases; row = nextRow (m i) (a .state .row) }))
     ∙ step-left (a .d) (a .plan .now) e s (r .fine)
 
 pub emit-in-spec : {M : Type 1} → statement M

@@ -21,7 +21,9 @@ use Rattle.emitter.proofs.flush.Tie as tie
 
 -- the plan is ready for the step
 accepted : (c : tie.After-n) → Ready (c .before .before .before .before .khz50-device .result) (c .before .before .before .before .before .before .before .before .args .plan .now) (c .n .given .0 .0) (c .before .before .study .last .1 .1 .0)
-accepted c = khz50-ready _ (c .before .before .before .before .before .before .before .before .args .plan .now) _ _ (c .before .before .study .result) (c .before .before .before .before .khz50-device .ensures) (c .n .given .1) (c .before .before .study .ensures .0) (c .before .before .study .ensures .1)
+accepted c =
+    let study = c .before .before .study in
+    khz50-ready _ (c .before .before .before .before .before .before .before .before .args .plan .now) _ _ (study .result) (c .before .before .before .before .khz50-device .ensures) (c .n .given .1) (study .ensures .0) (study .ensures .1)
 
 -- its cells fit the arrays
 low : (c : tie.After-n) → c .n .given .0 .0 ≤ 4096
@@ -65,14 +67,16 @@ slice-aggregate-flush-in-4 c = sym (part-size _ (low (c .before .before .before 
 
 flush-in-requires : tie.Need-flush-in-requires
 flush-in-requires c κs =
-    let size = part-size (c .before .before .before .before .before .before .before .before .n .given .0 .0) (low (c .before .before .before .before .before .before .before .before)) in
-    (subst (λ (k : ℕ). Ready (c .before .before .before .before .before .before .before .before .before .before .before .before .khz50-device .result) (c .before .before .before .before .before .before .before .before .before .before .before .before .before .before .before .before .args .plan .now) k (c .before .before .before .before .before .before .before .before .before .before .study .last .1 .1 .0)) (sym size) (accepted (c .before .before .before .before .before .before .before .before)), refl, refl, refl, λ p h. part-zero (c .before .before .before .before .before .before .before .before .n .given .0 .0) p (rw size at h))
+    let k = c .before .before .before .before .before .before .before .before in
+    let size = part-size (k .n .given .0 .0) (low k) in
+    (subst (λ (i : ℕ). Ready (k .before .before .before .before .khz50-device .result) (k .before .before .before .before .before .before .before .before .args .plan .now) i (k .before .before .study .last .1 .1 .0)) (sym size) (accepted k), refl, refl, refl, λ p h. part-zero (k .n .given .0 .0) p (rw size at h))
 
 returns : tie.Need-returns
 unfolding flushStep
 returns c =
     let a = c .before .before .before .before .before .before .before .before .before .args in
-    step-refused khz50 (a .plan .now) (at (a .state) (a .store .now)) (giving flush (a .symbol .now)) _ _ (first-ground khz50 (a .plan .now) _ _ (sym (c .before .g .given .1) ∙ c .before .before .before .study .ensures .0 ∙ ap (λ (d : Device). verdict d (a .plan .now)) (c .before .before .before .before .before .khz50-device .ensures)))
+    let judged = c .before .before .before .study .ensures .0 ∙ ap (λ (d : Device). verdict d (a .plan .now)) (c .before .before .before .before .before .khz50-device .ensures) in
+    step-refused khz50 (a .plan .now) (at (a .state) (a .store .now)) (giving flush (a .symbol .now)) _ _ (first-ground khz50 (a .plan .now) _ _ (sym (c .before .g .given .1) ∙ judged))
 
 same-length : tie.Need-same-length
 same-length c = search needs

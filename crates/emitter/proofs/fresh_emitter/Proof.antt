@@ -20,7 +20,9 @@ use Rattle.emitter.proofs.fresh_emitter.Tie as tie
 
 -- the plan is ready for the start
 accepted : (c : tie.After-n) → Ready (c .before .before .before .before .khz50-device .result) (c .before .before .before .before .before .before .before .args .plan .now) (c .n .given .0 .0) (c .before .before .study .last .1 .1 .0)
-accepted c = khz50-ready _ (c .before .before .before .before .before .before .before .args .plan .now) _ _ (c .before .before .study .result) (c .before .before .before .before .khz50-device .ensures) (c .n .given .1) (c .before .before .study .ensures .0) (c .before .before .study .ensures .1)
+accepted c =
+    let study = c .before .before .study in
+    khz50-ready _ (c .before .before .before .before .before .before .before .args .plan .now) _ _ (study .result) (c .before .before .before .before .khz50-device .ensures) (c .n .given .1) (study .ensures .0) (study .ensures .1)
 
 -- its cells fit the arrays
 low : (c : tie.After-n) → c .n .given .0 .0 ≤ 4096
@@ -51,12 +53,16 @@ slice-aggregate-start-in-2 : tie.Need-slice-aggregate-start-in-2
 slice-aggregate-start-in-2 c = sym (part-size _ (low (c .before .before .before .before .before)))
 
 start-in-requires : tie.Need-start-in-requires
-start-in-requires c κs = (subst (λ (k : ℕ). Ready (c .before .before .before .before .before .before .before .before .before .khz50-device .result) (c .before .before .before .before .before .before .before .before .before .before .before .before .args .plan .now) k (c .before .before .before .before .before .before .before .study .last .1 .1 .0)) (sym (part-size (c .before .before .before .before .before .n .given .0 .0) (low (c .before .before .before .before .before)))) (accepted (c .before .before .before .before .before)), refl)
+start-in-requires c κs =
+    let k = c .before .before .before .before .before in
+    let size = part-size (k .n .given .0 .0) (low k) in
+    (subst (λ (i : ℕ). Ready (k .before .before .before .before .khz50-device .result) (k .before .before .before .before .before .before .before .args .plan .now) i (k .before .before .study .last .1 .1 .0)) (sym size) (accepted k), refl)
 
 returns : tie.Need-returns
 returns c =
     let a = c .before .before .before .before .before .before .before .before .args in
-    start-refused khz50 (a .plan .now) (a .phase) (a .store .now) _ _ (first-ground khz50 (a .plan .now) _ _ (sym (c .before .g .given .1) ∙ c .before .before .before .study .ensures .0 ∙ ap (λ (d : Device). verdict d (a .plan .now)) (c .before .before .before .before .before .khz50-device .ensures)))
+    let judged = c .before .before .before .study .ensures .0 ∙ ap (λ (d : Device). verdict d (a .plan .now)) (c .before .before .before .before .before .khz50-device .ensures) in
+    start-refused khz50 (a .plan .now) (a .phase) (a .store .now) _ _ (first-ground khz50 (a .plan .now) _ _ (sym (c .before .g .given .1) ∙ judged))
 
 same-length : tie.Need-same-length
 same-length c = search needs

@@ -1,7 +1,7 @@
 -- `emitter::fresh_rows` meets its contract. Before row i the store is the one whose first i rows are made. Assumes nothing.
 use borrow.Author.Needs.{needs}
 use Prim.Native.Nat.{ℕ, _+_, _-_, _*_, _%_, _≤_}
-use mathlib.Core.Path.{_≡_, sym, ap, _∙_}
+use mathlib.Core.Path.{_≡_, sym, ap, _∙_, subst}
 use mathlib.Core.List.{List}
 use native.Mathlib.Omega.{arith}
 use native.Mathlib.Nat.{mod-lt}
@@ -12,7 +12,7 @@ use Rattle.rules.specs.Device.{phases}
 use Rattle.rules.specs.Plan.{planOf}
 use Rattle.rules.specs.Frame.{frameOf, inputCells, flush, filler}
 use Rattle.emitter.proofs.Accepted.{cells-low}
-use Rattle.emitter.proofs.Fresh.{filler-size, filler-cell, row-within, madeRows, first-row, next-row, all-rows}
+use Rattle.emitter.proofs.Fresh.{same-size, same-cell, row-within, madeRows, first-row, next-row, all-rows}
 use Rattle.emitter.proofs.fresh_rows.Statement.{statement}
 use Rattle.emitter.proofs.fresh_rows.Tie as tie
 
@@ -31,14 +31,14 @@ array-share-prefix-x : tie.Need-array-share-prefix-x Inv-loop μ-loop
 array-share-prefix-x c = few (c .before .before .before .before)
 
 slice-aggregate-put-at : tie.Need-slice-aggregate-put-at Inv-loop μ-loop
-slice-aggregate-put-at c = sym (filler-size _ (few (c .before .before .before .before .before)))
+slice-aggregate-put-at c = sym (same-size _ _ (few (c .before .before .before .before .before)))
 
 put-at-requires : tie.Need-put-at-requires Inv-loop μ-loop
 put-at-requires c κs =
     let g = c .before .before .before .before .before in
     let a = g .args in
     let n = length (a .kc .now) in
-    omega (arith, filler-size n (few g), row-within 0 (a .m) n (length (a .store .now)) (g .pre .0 .deep) (g .pre .2))
+    subst (λ (k : ℕ). 0 + k ≤ length (a .store .now)) (sym (same-size _ n (few g))) (omega (arith, row-within 0 (a .m) n (length (a .store .now)) (g .pre .0 .deep) (g .pre .2)))
 
 loop-holds : tie.Need-loop-holds Inv-loop μ-loop
 loop-holds c = search needs
@@ -100,7 +100,7 @@ returns c =
     let n = length (a .kc .now) in
     let l = c .before .loop in
     let done : l .i ≡ F .depth = omega (arith, l .inv .1, c .loop-test .left, w .depth) in
-    let first = first-row F (a .j) (a .store .now) (take n (replicate 4096 filler)) (filler-size n (few g) ∙ w .all) (λ p h. filler-cell n p (few g) (omega (arith, h, w .all))) in
+    let first = first-row F (a .j) (a .store .now) (take n (replicate 4096 filler)) (same-size filler n (few g) ∙ w .all) (λ p h. same-cell filler n p (few g) (omega (arith, h, w .all))) in
     l .inv .3 (a .store .now) (c .before .before .before .before .put-at .ensures ∙ first) ∙ ap (madeRows F (a .j) (a .store .now)) done ∙ all-rows F (a .j) (a .store .now)
 
 pub fresh-rows-spec : {M : Type 1} → statement M

@@ -6,7 +6,7 @@ use native.Mathlib.Omega.{arith}
 use native.Mathlib.Nat.{mul-le-mul}
 use lib.ListN.{length}
 use Rattle.rules.specs.Plan.{planOf}
-use Rattle.rules.specs.Frame.{frameOf, cells}
+use Rattle.rules.specs.Frame.{Frame, frameOf, cells}
 use Rattle.emitter.proofs.Accepted.{cells-low}
 use Rattle.emitter.proofs.Answers.{late-start, short-start, started, start-left}
 use Rattle.emitter.proofs.start_in.Statement.{statement}
@@ -17,8 +17,12 @@ deep : (c : tie.After-number-at) → c .number-at .result ≡ planOf (c .before 
 unfolding planOf
 deep c = c .number-at .ensures .0
 
+-- the frame of the plan
+abbrev frame : tie.Start → Frame
+frame g = frameOf (g .args .d) (planOf (g .args .plan .now))
+
 -- the store asked for is M * N_I
-size : (c : tie.After-number-at) → c .number-at .result * length (c .before .before .before .before .before .before .args .kc .now) ≡ planOf (c .before .before .before .before .before .before .args .plan .now) .depth * cells (frameOf (c .before .before .before .before .before .before .args .d) (planOf (c .before .before .before .before .before .before .args .plan .now)))
+size : (c : tie.After-number-at) → c .number-at .result * length (c .before .before .before .before .before .before .args .kc .now) ≡ planOf (c .before .before .before .before .before .before .args .plan .now) .depth * cells (frame (c .before .before .before .before .before .before))
 size c = λ i. deep c i * c .before .before .before .before .before .before .pre .0 .all i
 
 returns : tie.Need-returns
@@ -26,7 +30,7 @@ unfolding frameOf
 returns c =
     let g = c .before .before .before .before .before in
     let a = g .args in
-    late-start (frameOf (a .d) (planOf (a .plan .now))) (a .phase) (a .store .now) (c .if1 .taken) ∙ start-left (a .d) (a .plan .now) (a .phase) (a .store .now) (g .pre .0 .fine)
+    late-start (frame g) (a .phase) (a .store .now) (c .if1 .taken) ∙ start-left (a .d) (a .plan .now) (a .phase) (a .store .now) (g .pre .0 .fine)
 
 number-at-requires : tie.Need-number-at-requires
 number-at-requires c κs = search needs
@@ -42,7 +46,7 @@ unfolding frameOf
 returns-2 c =
     let g = c .before .before .before .before .before .before .before in
     let a = g .args in
-    short-start (frameOf (a .d) (planOf (a .plan .now))) (a .phase) (a .store .now) (c .before .before .if1 .left) (omega (arith, c .if2 .taken, size (c .before))) ∙ start-left (a .d) (a .plan .now) (a .phase) (a .store .now) (g .pre .0 .fine)
+    short-start (frame g) (a .phase) (a .store .now) (c .before .before .if1 .left) (omega (arith, c .if2 .taken, size (c .before))) ∙ start-left (a .d) (a .plan .now) (a .phase) (a .store .now) (g .pre .0 .fine)
 
 spots-requires : tie.Need-spots-requires
 spots-requires c κs = search needs
@@ -79,9 +83,10 @@ same-length-3 c = search needs
 returns-3 : tie.Need-returns-3
 unfolding frameOf
 returns-3 c =
-    let g = c .before .before .before .before .before .before .before .before .before .before .before .before .before .before .before .before .before .before .before in
+    let m = c .before .before .before .before .before .before .before .before .before .before .before .before .before in
+    let g = m .before .before .before .before .before .before in
     let a = g .args in
-    started (frameOf (a .d) (planOf (a .plan .now))) (a .phase) (a .store .now) (c .before .before .before .before .before .before .before .before .before .before .before .before .before .before .if1 .left) (omega (arith, c .before .before .before .before .before .before .before .before .before .before .before .before .if2 .left, size (c .before .before .before .before .before .before .before .before .before .before .before .before .before))) _ (c .before .before .fresh-rows .ensures) ∙ start-left (a .d) (a .plan .now) (a .phase) (a .store .now) (g .pre .0 .fine)
+    started (frame g) (a .phase) (a .store .now) (m .before .if1 .left) (omega (arith, c .before .before .before .before .before .before .before .before .before .before .before .before .if2 .left, size m)) _ (c .before .before .fresh-rows .ensures) ∙ start-left (a .d) (a .plan .now) (a .phase) (a .store .now) (g .pre .0 .fine)
 
 pub start-in-spec : {M : Type 1} → statement M
 start-in-spec =

@@ -4,8 +4,8 @@ use mathlib.Core.Path.{_∙_}
 use Rattle.counting.specs.Search.{tabulate}
 use Rattle.counting.proofs.Lists.{getD-tabulate}
 use Rattle.rules.specs.Frame.{reversed}
-use Rattle.cells.proofs.row_of.Statement.{statement}
-use Rattle.cells.proofs.row_of.Tie as tie
+use Rattle.cells.proofs.rows.row_of.Statement.{statement}
+use Rattle.cells.proofs.rows.row_of.Tie as tie
 
 array-read-octet : tie.Need-array-read-octet
 array-read-octet c = search needs
