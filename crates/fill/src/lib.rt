@@ -21,10 +21,10 @@ const FILLER: u16 = 0x8001;
 const TOP_DATA: u16 = 16383;
 
 // A flag as a number that can be added up.
-fn number(flag: u8) -> usize
+fn number(flag: u8) -> u16
     ensures { λ r. ⌜ r ≡ flag ⌝ }
 {
-    flag as usize
+    flag as u16
 }
 
 // Where the block of 32 cells from p on ends, n at most.
@@ -36,11 +36,11 @@ fn block_end(p: usize, n: usize) -> usize
 }
 
 // The flags from a to e - 1 added up: 0 only if each of them is.
-fn flag_sum(flag: &[u8], a: usize, e: usize) -> usize
+fn flag_sum(flag: &[u8], a: usize, e: usize) -> u16
     requires { ⌜ (a ≤ e) × (e ≤ a + 32) × (e ≤ length (now flag)) ⌝ }
     ensures { λ r. ⌜ (r ≡ 0 → (i : ℕ) → a ≤ i → i < e → getD (now (flag .entry)) i 0 ≡ 0) ⌝ }
 {
-    let mut s: usize = 0;
+    let mut s: u16 = 0;
     let mut i = a;
     while i < e {
         s = s + number(flag[i]);

@@ -1,7 +1,7 @@
 -- Where each cell of a run is sent: the place of a data cell has the role data, and what was given stands there. Assumes nothing.
 use Prim.Native.Nat.{ℕ, _+_, _-_, _%_, _<_}
 use mathlib.Core.Path.{_≡_, refl, sym, ap, _∙_}
-use mathlib.Core.Bool.{Bool, true, false, not, _&&_}
+use mathlib.Core.Bool.{true, false, not, _&&_}
 use mathlib.Core.List.{List, []}
 use native.Mathlib.Nat.{mod-add-mod, add-mod-right}
 use native.Mathlib.Omega.{arith}
@@ -12,8 +12,7 @@ use Rattle.counting.specs.Search.{count}
 use Rattle.counting.proofs.Bools.{and-left, and-right}
 use Rattle.counting.proofs.Lists.{getD-tabulate}
 use Rattle.rules.specs.declared.Device.{Device}
-use Rattle.rules.specs.declared.Role.{Role}
-use Rattle.rules.specs.declared.Role.the-variants.{Excluded, Plc, Continuous, Scattered, Data}
+use Rattle.rules.specs.declared.Role.the-variants.{Data}
 use Rattle.rules.specs.Plan.{Plan}
 use Rattle.rules.specs.Bands.{excluded, active}
 use Rattle.rules.specs.Roles.{inPlc, continuous, scatteredAt, role, ranked}
@@ -21,6 +20,7 @@ use Rattle.rules.specs.Frame.{Frame, frameOf, cells, spot, delay, phaseBack, he
 use Rattle.rules.specs.Steps.{Emitter, Send, frameStep}
 use Rattle.frame.specs.Counted.{phaseOf}
 use Rattle.frame.proofs.Cells.{Sound, data-cell, data-cell-held, data-cell-at, spot-below, spot-ranked, spot-inj, line-spot}
+use Rattle.marks.proofs.Testing.{role-is}
 use Rattle.runs.specs.Run.{input, sent}
 use Rattle.runs.specs.Claims.{dataCell, sentNumber, Placed}
 use Rattle.runs.proofs.Steps.{given-length, FreshIn}
@@ -28,23 +28,15 @@ use Rattle.runs.proofs.Emit.{givenBefore, closedCells, closedSent, give
 
 -- ---- the role of a place
 
--- the role of the first test that holds
-abbrev firstRole : Bool → Bool → Bool → Bool → Role
-firstRole true b c e = Excluded
-firstRole false true c e = Plc
-firstRole false false true e = Continuous
-firstRole false false false true = Scattered
-firstRole false false false false = Data
-
 -- a subcarrier that has a rank has the role data, where the scattered pattern does not stand
 pub data-role : (d : Device) (p : Plan) (j k : ℕ) → ranked d p k ≡ true → scatteredAt d p j k ≡ false → role d p j k ≡ Data
-unfolding role ranked active
+unfolding ranked active
 data-role d p j k r free =
     let in-band : (active d p k && not (inPlc d p k)) ≡ true = and-left _ (not (continuous d p k)) r in
     let off : excluded p k ≡ false = not-true _ (and-right (ltb k (d .subcarriers)) _ (and-left _ (not (inPlc d p k)) in-band)) in
     let no-plc : inPlc d p k ≡ false = not-true _ (and-right (active d p k) _ in-band) in
     let no-pilot : continuous d p k ≡ false = not-true _ (and-right (active d p k && not (inPlc d p k)) _ r) in
-    λ i. firstRole (off i) (no-plc i) (no-pilot i) (free i)
+    sym (role-is d p j k false false false false off no-plc no-pilot free)
 
 -- ---- cells and places of any frame
 

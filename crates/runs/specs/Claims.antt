@@ -15,35 +15,38 @@ use Rattle.rules.specs.Steps.{Emitter, Send, sendStep}
 use Rattle.frame.specs.Counted.{phaseOf, Counts}
 use Rattle.runs.specs.Run.{input, sent, Fresh}
 
--- the cell that takes number c of the data of input t, from the starting phase j
+-- How many data cells input t has, from the starting phase j; `phaseOf F j t` is the phase of input t, and of sent symbol t.
+abbrev pub dataCells : Frame → ℕ → ℕ → ℕ
+dataCells F j t = dataCount F (phaseOf F j t)
+
+-- the cell that takes number c of the data of input t
 abbrev pub dataCell : Frame → ℕ → ℕ → ℕ → ℕ
 dataCell F j t c = select (isData F (phaseOf F j t)) (cells F) c
 
--- The place of cell q of input t is the subcarrier of q's rank, `spot F q`, in the sent symbol of this number; the phase of symbol n is `phaseOf F j n`.
+-- The place of cell q of input t is the subcarrier of q's rank, `spot F q`, in the sent symbol of this number.
 abbrev pub sentNumber : Frame → ℕ → ℕ → ℕ
 sentNumber F t q = t + delay F q
 
--- the input gs and the sent symbols ys of a run from the starting phase j, under the plan p
-pub record Placed (d : Device) (p : Plan) (j : ℕ) (gs : List Given) (ys : List (List ℕ)) : Type 0 where
+-- the input gs and the sent symbols ys of a run from the starting phase j, under the plan p; F is its frame
+pub record PlacedIn (d : Device) (p : Plan) (F : Frame) (j : ℕ) (gs : List Given) (ys : List (List ℕ)) : Type 0 where
   -- each accepted step sends one symbol
   pub one-each : length ys ≡ length gs
   -- a data symbol has as many numbers as its phase has data cells
-  pub all-given : (t : ℕ) (ds : List ℕ) → t < length gs → getD gs t flush ≡ symbol ds → length ds ≡ dataCount (frameOf d p) (phaseOf (frameOf d p) j t)
+  pub all-given : (t : ℕ) (ds : List ℕ) → t < length gs → getD gs t flush ≡ symbol ds → length ds ≡ dataCells F j t
   -- each number goes into a cell below N_I, and no two of one symbol into the same
-  pub cell : (t c : ℕ) → c < dataCount (frameOf d p) (phaseOf (frameOf d p) j t) → dataCell (frameOf d p) j t c < cells (frameOf d p)
-  pub own-cell : (t c c′ : ℕ) → c < dataCount (frameOf d p) (phaseOf (frameOf d p) j t) → c′ < dataCount (frameOf d p) (phaseOf (frameOf d p) j t)
-      → dataCell (frameOf d p) j t c ≡ dataCell (frameOf d p) j t c′ → c ≡ c′
+  pub cell : (t c : ℕ) → c < dataCells F j t → dataCell F j t c < cells F
+  pub own-cell : (t c c′ : ℕ) → c < dataCells F j t → c′ < dataCells F j t → dataCell F j t c ≡ dataCell F j t c′ → c ≡ c′
   -- no two cells of any inputs share a place
-  pub own-place : (t t′ q q′ : ℕ) → q < cells (frameOf d p) → q′ < cells (frameOf d p) → sentNumber (frameOf d p) t q ≡ sentNumber (frameOf d p) t′ q′
-      → spot (frameOf d p) q ≡ spot (frameOf d p) q′ → (t ≡ t′) × (q ≡ q′)
+  pub own-place : (t t′ q q′ : ℕ) → q < cells F → q′ < cells F → sentNumber F t q ≡ sentNumber F t′ q′ → spot F q ≡ spot F q′ → (t ≡ t′) × (q ≡ q′)
   -- the place of a data cell is a subcarrier of the symbol, with the role data at the symbol's phase
-  pub inside : (t c : ℕ) → c < dataCount (frameOf d p) (phaseOf (frameOf d p) j t) → spot (frameOf d p) (dataCell (frameOf d p) j t c) < d .subcarriers
-  pub role-data : (t c : ℕ) → c < dataCount (frameOf d p) (phaseOf (frameOf d p) j t)
-      → role d p (phaseOf (frameOf d p) j (sentNumber (frameOf d p) t (dataCell (frameOf d p) j t c))) (spot (frameOf d p) (dataCell (frameOf d p) j t c)) ≡ Data
+  pub inside : (t c : ℕ) → c < dataCells F j t → spot F (dataCell F j t c) < d .subcarriers
+  pub role-data : (t c : ℕ) → c < dataCells F j t → role d p (phaseOf F j (sentNumber F t (dataCell F j t c))) (spot F (dataCell F j t c)) ≡ Data
   -- once the run reaches the place, the number stands there unchanged
-  pub stands : (t c : ℕ) (ds : List ℕ) → t < length gs → getD gs t flush ≡ symbol ds → c < length ds
-      → sentNumber (frameOf d p) t (dataCell (frameOf d p) j t c) < length ys
-      → getD (getD ys (sentNumber (frameOf d p) t (dataCell (frameOf d p) j t c)) []) (spot (frameOf d p) (dataCell (frameOf d p) j t c)) 0 ≡ getD ds c 0
+  pub stands : (t c : ℕ) (ds : List ℕ) → t < length gs → getD gs t flush ≡ symbol ds → c < length ds → sentNumber F t (dataCell F j t c) < length ys
+      → getD (getD ys (sentNumber F t (dataCell F j t c)) []) (spot F (dataCell F j t c)) 0 ≡ getD ds c 0
+
+abbrev pub Placed : Device → Plan → ℕ → List Given → List (List ℕ) → Type 0
+Placed d p j gs ys = PlacedIn d p (frameOf d p) j gs ys
 
 -- a flushed run has flushes as its last M - 1 accepted steps
 pub record Flushed (m : ℕ) (gs : List Given) : Type 0 where
