@@ -5,6 +5,9 @@
 // and the upper two of both lengths zero; then the plan, and a byte for each step. tests/emits.py says what the bytes stand for and makes
 // stdin and stdout.
 ghost use Prim.Native.Nat.{_≤_, _<_};
+
+mod kinds;
+
 use rules::CountAnswer;
 use rules::EmitterState;
 use rules::SendAnswer;
@@ -21,9 +24,7 @@ struct Run {
     refused: u32,
 }
 
-// The cells of the store, and of a symbol.
-const STORE: usize = 120000;
-
+// The cells of a symbol.
 const SYMBOL: usize = 4096;
 
 // The lower of two lengths.
@@ -120,69 +121,6 @@ fn mixed_counts(plan: &[u8]) -> u32 {
     mixed_count(mix, plan, 4294967295)
 }
 
-// The steps of this number emit; the others flush.
-fn emits(kind: u8) -> bool {
-    if kind == 0 {
-        return true;
-    }
-    if kind == 7 {
-        return true;
-    }
-    if kind == 10 {
-        return true;
-    }
-    if kind == 17 {
-        return true;
-    }
-    if 12 <= kind {
-        return kind <= 15;
-    }
-    if kind < 2 {
-        return false;
-    }
-    kind <= 5
-}
-
-// How many data cells a step is given.
-fn count_of(kind: u8, nd: usize) -> usize {
-    if kind == 12 {
-        return 0;
-    }
-    if nd == 0 {
-        return 0;
-    }
-    if 4096 <= nd {
-        return 4096;
-    }
-    if kind == 2 {
-        return nd - 1;
-    }
-    if kind == 13 {
-        return nd - 1;
-    }
-    if kind == 14 {
-        return nd - 1;
-    }
-    if kind == 15 {
-        return nd - 1;
-    }
-    if kind == 3 {
-        return nd + 1;
-    }
-    nd
-}
-
-// The phase that a step is given.
-fn phase_of(kind: u8, phase: u32) -> u32 {
-    if kind == 5 {
-        return std::num::wrapping_add_u32(phase, 128);
-    }
-    if kind == 11 {
-        return 4294967295;
-    }
-    phase
-}
-
 // M of a plan, its byte 7; 0 where there is none.
 fn depth_of(plan: &[u8]) -> u32 {
     if plan.len() < 8 {
@@ -202,101 +140,11 @@ fn times(m: u32, n: u32) -> usize {
     (m as usize) * cells
 }
 
-// The row that a step is given; M is a plan's byte 7.
-fn row_of(kind: u8, row: u32, m: u32) -> u32 {
-    if kind == 16 {
-        return m;
-    }
-    if kind == 6 {
-        return std::num::wrapping_add_u32(row, 32);
-    }
-    if kind == 12 {
-        return std::num::wrapping_add_u32(row, 32);
-    }
-    if kind == 11 {
-        return 4294967295;
-    }
-    row
-}
-
-// How many cells of the store a step is lent; `need` is M times N_I.
-fn store_of(kind: u8, need: usize) -> usize {
-    if need == 0 {
-        return 0;
-    }
-    if STORE < need {
-        return STORE;
-    }
-    if kind == 7 {
-        return need - 1;
-    }
-    if kind == 14 {
-        return need - 1;
-    }
-    if kind == 10 {
-        return need;
-    }
-    STORE
-}
-
-// How many cells of the symbol a step is lent.
-fn symbol_of(kind: u8) -> usize {
-    if kind == 8 {
-        return 4095;
-    }
-    if kind == 12 {
-        return 4095;
-    }
-    if kind == 15 {
-        return 4095;
-    }
-    if kind == 9 {
-        return 4097;
-    }
-    SYMBOL
-}
-
 // Puts x into a cell, if there is such a cell.
 fn put(cells: &mut [u16], at: usize, x: u16) {
     if at < cells.len() {
         cells[at] = x;
     }
-}
-
-// Where a step has its first cell that is no data; n where it has none.
-fn above_at(kind: u8, n: usize) -> usize {
-    if kind == 4 {
-        return n / 2;
-    }
-    if kind == 13 {
-        return 0;
-    }
-    if kind == 15 {
-        return 0;
-    }
-    if kind == 17 {
-        return 0;
-    }
-    n
-}
-
-// What stands there.
-fn above(kind: u8) -> u16 {
-    if 15 <= kind {
-        return 32768;
-    }
-    16384
-}
-
-// Where a step has a cell of 65535; n where it has none.
-fn last_at(kind: u8, n: usize) -> usize {
-    if n == 0 {
-        return n;
-    }
-    if kind == 4 {
-        return n - 1;
-    }
-    n
 }
 
 // The run after a step with this answer; refused steps are never given the state that they hand back.
@@ -325,16 +173,16 @@ fn told(run: Run, answer: SendAnswer, symbol: &[u16]) -> Run {
 fn filled(x: u32, kind: u8, cells: &mut [u16]) -> u32 {
     let n = cells.len();
     let last = draw(x, cells);
-    put(cells, above_at(kind, n), above(kind));
-    put(cells, last_at(kind, n), 65535);
+    put(cells, kinds::above_at(kind, n), kinds::above(kind));
+    put(cells, kinds::last_at(kind, n), 65535);
     last
 }
 
 // The state that a step is given.
 fn state_of(run: Run, kind: u8, plan: &[u8]) -> EmitterState {
     EmitterState {
-        phase: phase_of(kind, run.phase),
-        row: row_of(kind, run.row, depth_of(plan)),
+        phase: kinds::phase_of(kind, run.phase),
+        row: kinds::row_of(kind, run.row, depth_of(plan)),
     }
 }
 
@@ -350,8 +198,8 @@ fn emit_cells(
 ) -> Run {
     let mut next = run;
     next.x = filled(run.x, kind, cells);
-    let rows = at_most(store_of(kind, need), store.len());
-    let width = at_most(symbol_of(kind), symbol.len());
+    let rows = at_most(kinds::store_of(kind, need), store.len());
+    let width = at_most(kinds::symbol_of(kind), symbol.len());
     let answer = emitter::emit(
         plan,
         state_of(run, kind, plan),
@@ -372,7 +220,10 @@ fn emit_step(
     buf: &mut [u16],
     symbol: &mut [u16],
 ) -> Run {
-    let n = at_most(count_of(kind, data_count(plan, run.phase)), buf.len());
+    let n = at_most(
+        kinds::count_of(kind, data_count(plan, run.phase)),
+        buf.len(),
+    );
     emit_cells(run, kind, plan, need, store, &mut buf[..n], symbol)
 }
 
@@ -385,8 +236,8 @@ fn flush_step(
     store: &mut [u16],
     symbol: &mut [u16],
 ) -> Run {
-    let rows = at_most(store_of(kind, need), store.len());
-    let width = at_most(symbol_of(kind), symbol.len());
+    let rows = at_most(kinds::store_of(kind, need), store.len());
+    let width = at_most(kinds::symbol_of(kind), symbol.len());
     let answer = emitter::flush(
         plan,
         state_of(run, kind, plan),
@@ -406,7 +257,7 @@ fn step(
     buf: &mut [u16],
     symbol: &mut [u16],
 ) -> Run {
-    if emits(kind) {
+    if kinds::emits(kind) {
         return emit_step(run, kind, plan, need, store, buf, symbol);
     }
     flush_step(run, kind, plan, need, store, symbol)
