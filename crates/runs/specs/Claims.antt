@@ -2,15 +2,18 @@
 use Prim.Native.Nat.{ℕ, _+_, _-_, _≤_, _<_}
 use mathlib.Core.Path.{_≡_}
 use mathlib.Core.Logic.{_↔_}
+use mathlib.Core.Bool.{Bool, true, _||_}
 use mathlib.Core.List.{List, []}
+use lib.Dec.{leb, eqb}
 use lib.ListN.{length, getD}
 use Rattle.counting.specs.Search.{select}
 use Rattle.rules.specs.declared.Device.{Device}
-use Rattle.rules.specs.declared.Role.the-variants.{Data}
+use Rattle.rules.specs.declared.Role.{Role}
+use Rattle.rules.specs.declared.Role.the-variants.{Excluded, Plc, Continuous, Scattered, Data}
 use Rattle.rules.specs.Device.{phases}
 use Rattle.rules.specs.Plan.{Plan, planOf}
-use Rattle.rules.specs.Roles.{role}
-use Rattle.rules.specs.Frame.{Frame, frameOf, cells, spot, delay, isData, dataCount, Given, flush, symbol}
+use Rattle.rules.specs.Roles.{excludedMark, continuousMark, plcMark, role}
+use Rattle.rules.specs.Frame.{Frame, frameOf, cells, spot, delay, isData, dataCount, Given, flush, symbol, placeholder, filler, topData}
 use Rattle.rules.specs.Steps.{Emitter, Send, sendStep}
 use Rattle.frame.specs.Counted.{phaseOf, Counts}
 use Rattle.runs.specs.Run.{input, sent, Fresh}
@@ -26,6 +29,14 @@ dataCell F j t c = select (isData F (phaseOf F j t)) (cells F) c
 -- The place of cell q of input t is the subcarrier of q's rank, `spot F q`, in the sent symbol of this number.
 abbrev pub sentNumber : Frame → ℕ → ℕ → ℕ
 sentNumber F t q = t + delay F q
+
+-- what may stand on a subcarrier of a role: its mark, or for the role data a number or filler
+abbrev pub fitsRole : Role → ℕ → Bool
+fitsRole Excluded x = eqb x excludedMark
+fitsRole Plc x = eqb x plcMark
+fitsRole Continuous x = eqb x continuousMark
+fitsRole Scattered x = eqb x placeholder
+fitsRole Data x = leb x topData || eqb x filler
 
 -- the input gs and the sent symbols ys of a run from the starting phase j, under the plan p; F is its frame
 pub record PlacedIn (d : Device) (p : Plan) (F : Frame) (j : ℕ) (gs : List Given) (ys : List (List ℕ)) : Type 0 where
@@ -61,6 +72,9 @@ pub record EmitterClaims (d : Device) (s : List ℕ) : Type 0 where
   pub counts : Counts (frameOf d (planOf s))
   -- each data cell has one place of its own
   pub placed : (j : ℕ) (e : Emitter) → Fresh d s j e → (steps : List Send) → Placed d (planOf s) j (input (sendStep d s) e steps) (sent (sendStep d s) e steps)
+  -- the pilot rule: in every sent symbol each subcarrier carries what its role at the symbol's phase asks for
+  pub marked : (j : ℕ) (e : Emitter) → Fresh d s j e → (steps : List Send) (n k : ℕ) → n < length (sent (sendStep d s) e steps) → k < d .subcarriers
+      → fitsRole (role d (planOf s) (phaseOf (frameOf d (planOf s)) j n) k) (getD (getD (sent (sendStep d s) e steps) n []) k 0) ≡ true
   -- two flushed runs send the same symbols exactly when their inputs are the same
   pub unique : (j : ℕ) (e e′ : Emitter) → Fresh d s j e → Fresh d s j e′ → (steps steps′ : List Send)
       → Flushed (planOf s .depth) (input (sendStep d s) e steps) → Flushed (planOf s .depth) (input (sendStep d s) e′ steps′)

@@ -1,0 +1,110 @@
+-- The pilot rule: every cell of a sent symbol is its role's mark, or data or filler for the role data. Assumes nothing.
+use Prim.Native.Nat.{ℕ, _+_, _-_, _%_, _<_}
+use mathlib.Core.Path.{_≡_, refl, sym, ap, _∙_}
+use mathlib.Core.Logic.{by-cases}
+use mathlib.Core.Bool.{Bool, true, false, not, _&&_, _||_}
+use mathlib.Core.List.{List, []}
+use native.Mathlib.Nat.{mod-add-mod, add-mod-right}
+use native.Mathlib.Decide.{decLt}
+use native.Mathlib.Omega.{arith}
+use lib.Dec.{leb, eqb}
+use lib.ListN.{length, getD, getD-replicate}
+use borrow.Author.Tests.{le-leb, lt-ltb, eq-eqb}
+use Rattle.counting.specs.Search.{pick, count}
+use Rattle.counting.proofs.Bools.{by-test}
+use Rattle.counting.proofs.Laws.{count-lt}
+use Rattle.rules.specs.declared.Device.{Device}
+use Rattle.rules.specs.declared.Finding.the-variants.{Fine}
+use Rattle.rules.specs.Plan.{Plan}
+use Rattle.rules.specs.Bands.{excluded, active}
+use Rattle.rules.specs.Roles.{inPlc, continuous, scatteredAt, role, ranked, mark}
+use Rattle.rules.specs.Frame.{Frame, frameOf, cells, spot, holder, delay, phaseBack, held, isData, dataCount, Given, flush, symbol, dataList, inputCells, lineSymbol, placeholder, filler, topData}
+use Rattle.rules.specs.Steps.{Emitter, Send, givenGrounds, frameStep}
+use Rattle.marks.specs.Stages.{firstMark}
+use Rattle.marks.proofs.Testing.{firstRole, mark-is, role-is}
+use Rattle.frame.specs.Counted.{phaseOf}
+use Rattle.frame.proofs.Cells.{Sound, input-data, input-held, holder-below, spot-holder, line-ranked, line-unranked}
+use Rattle.runs.specs.Run.{input, sent}
+use Rattle.runs.specs.Claims.{fitsRole}
+use Rattle.runs.proofs.Steps.{given-length, given-data, FreshIn}
+use Rattle.runs.proofs.Emit.{AllFine, givenBefore, closedCells, given-late, given-early, delay-below, length-sent, input-fine}
+use Rattle.runs.proofs.Places.{closed-at, sent-at}
+
+-- what may stand on subcarrier k of a symbol at phase j
+cellFits : Frame → ℕ → ℕ → ℕ → Bool
+cellFits F j k x = pick (F .ranked k) (pick (F .pattern j k) (eqb x placeholder) (leb x topData || eqb x filler)) (eqb x (F .mark k))
+
+-- it is what the role asks for
+fits-role : (d : Device) (p : Plan) (j k x : ℕ) → k < d .subcarriers → cellFits (frameOf d p) j k x ≡ fitsRole (role d p j k) x
+unfolding cellFits frameOf ranked active
+fits-role d p j k x l =
+    (λ i. pick (((lt-ltb k (d .subcarriers) l i && not (excluded p k)) && not (inPlc d p k)) && not (continuous d p k)) (pick (scatteredAt d p j k) (eqb x placeholder) (leb x topData || eqb x filler)) (eqb x (mark-is d p k i)))
+    ∙ go (excluded p k) (inPlc d p k) (continuous d p k) (scatteredAt d p j k)
+    ∙ ap (λ r. fitsRole r x) (role-is d p j k _ _ _ _ refl refl refl refl)
+  where
+    go : (a b c e : Bool) → pick (((true && not a) && not b) && not c) (pick e (eqb x placeholder) (leb x topData || eqb x filler)) (eqb x (firstMark a b c)) ≡ fitsRole (firstRole a b c e) x
+    go true b c e = refl
+    go false true c e = refl
+    go false false true e = refl
+    go false false false true = refl
+    go false false false false = refl
+
+module _ (F : Frame) (ok : Sound F) (j : ℕ) (gs : List Given) where
+  -- what was given at each number, flushes before the start, is refused by no ground at its phase
+  before-fine : AllFine F j gs → (i q : ℕ) → i < length gs → givenGrounds F (phaseBack F (j + i) (delay F q)) (givenBefore F gs (i + F .depth - delay F q)) ≡ Fine
+  unfolding givenGrounds
+  before-fine fine i q h =
+      by-cases (decLt i (delay F q))
+      (λ c. rw (given-early F gs (i + F .depth - delay F q) (omega (arith, delay-below F ok q))) refl)
+      (λ c.
+      let e : i + F .depth - delay F q ≡ F .depth + (i - delay F q) = omega arith in
+      let w : j + i + (F .phases - delay F q) ≡ j + (i - delay F q) + F .phases = omega (arith, delay-below F ok q, ok .depth-le) in
+      rw (e, given-late F gs (i - delay F q), w, add-mod-right) (fine (i - delay F q) (omega arith)))
+
+  -- what was given holds data, or filler for a flush
+  given-cell : (t : ℕ) (g : Given) (c : ℕ) → givenGrounds F t g ≡ Fine → c < dataCount F t
+      → (leb (getD (dataList F t g) c 0) topData || eqb (getD (dataList F t g) c 0) filler) ≡ true
+  unfolding dataList
+  given-cell t flush c h l = rw (getD-replicate (dataCount F t) c filler 0 l) refl
+  given-cell t (symbol ds) c h l = rw (le-leb (getD ds c 0) topData (given-data F t ds h c (omega (arith, given-length F t ds h)))) refl
+
+  data-before : (t q : ℕ) → q < cells F → held F t q ≡ false → count (isData F t) q < dataCount F t
+  unfolding dataCount isData
+  data-before t q hq h = count-lt (isData F t) q (cells F) hq (ap not h)
+
+  -- the pattern that a cell of an earlier input meets where it is sent
+  held-back : (a q : ℕ) → held F (phaseBack F a (delay F q)) q ≡ F .pattern (a % F .phases) (spot F q)
+  unfolding held
+  held-back a q =
+      ap (λ (x : ℕ). F .pattern x (spot F q))
+      (mod-add-mod (a + (F .phases - delay F q)) (F .phases) (delay F q)
+      ∙ ap (λ (x : ℕ). x % F .phases) (let e : a + (F .phases - delay F q) + delay F q ≡ a + F .phases = omega (arith, delay-below F ok q, ok .depth-le) in e)
+      ∙ add-mod-right a (F .phases))
+
+  closed-fits : AllFine F j gs → (i k : ℕ) → i < length gs → k < F .width → cellFits F (phaseOf F j i) k (getD (lineSymbol F (closedCells F j gs i)) k 0) ≡ true
+  unfolding cellFits
+  closed-fits fine i k hi hk =
+      by-test (F .ranked k)
+      (λ r.
+      let q : ℕ = holder F k in
+      let hq : q < cells F = holder-below F (ok .key-inj) k hk r in
+      let t : ℕ = phaseBack F (j + i) (delay F q) in
+      let g : Given = givenBefore F gs (i + F .depth - delay F q) in
+      let v : getD (lineSymbol F (closedCells F j gs i)) k 0 ≡ getD (inputCells F t g) q 0 = line-ranked F (ok .key-inj) (closedCells F j gs i) k hk r ∙ closed-at F j gs i q hq in
+      let at : held F t q ≡ F .pattern (phaseOf F j i) k = held-back (j + i) q ∙ ap (F .pattern (phaseOf F j i)) (spot-holder F (ok .key-inj) k hk r) in
+      by-test (F .pattern (phaseOf F j i) k)
+      (λ h. rw (v ∙ input-held F t g q hq (at ∙ h), r, h) refl)
+      (λ h. rw (v ∙ input-data F t g q hq (at ∙ h), r, h)
+      (given-cell t g (count (isData F t) q) (before-fine fine i q hi) (data-before t q hq (at ∙ h)))))
+      (λ r. rw (r, line-unranked F (ok .key-inj) (closedCells F j gs i) k hk r) (eq-eqb (F .mark k) (F .mark k) refl))
+
+-- every cell of every symbol of a run from a fresh start
+pub fitting : (d : Device) (p : Plan) → Sound (frameOf d p) → (j : ℕ) (e : Emitter) → FreshIn (frameOf d p) j e → (steps : List Send) (n k : ℕ) → n < length (sent (frameStep (frameOf d p)) e steps) → k < d .subcarriers
+    → fitsRole (role d p (phaseOf (frameOf d p) j n) k) (getD (getD (sent (frameStep (frameOf d p)) e steps) n []) k 0) ≡ true
+fitting d p ok j e fresh steps n k hn hk =
+    let F : Frame = frameOf d p in
+    let gs : List Given = input (frameStep F) e steps in
+    let hi : n < length gs = omega (arith, length-sent F e steps) in
+    sym (fits-role d p (phaseOf F j n) k (getD (getD (sent (frameStep F) e steps) n []) k 0) hk)
+    ∙ ap (λ (y : List ℕ). cellFits F (phaseOf F j n) k (getD y k 0)) (sent-at F ok j e fresh steps n hi)
+    ∙ closed-fits F ok j gs (input-fine F j e fresh steps) n k hi (unfold frameOf in hk)
