@@ -33,7 +33,7 @@ fn cell_carriers(car: &[u16], kc: &mut [u16])
     let mut rank: usize = 0;
     let mut i: usize = 0;
     while i < 128 {
-        let mut p = rows::row_of(i);
+        let mut p = rows::octet(rows::ROWS[i]);
         while p < ni {
             kc[p] = car[rank];
             rank = rank + 1;
@@ -52,7 +52,7 @@ fn place_rows(car: &[u16], cells: &[u16], out: &mut [u16])
     let mut rank: usize = 0;
     let mut i: usize = 0;
     while i < 128 {
-        let mut p = rows::row_of(i);
+        let mut p = rows::octet(rows::ROWS[i]);
         while p < ni {
             let k = wide(car[rank]);
             out[k] = cells[p];

@@ -1,10 +1,8 @@
-// The order in which the rows of cells are read.
+// The order in which the rows of cells are read. The loops index the table themselves: in a function of its own it would be built at each call.
 ghost use mathlib.Core.Path.{_≡_};
-ghost use Prim.Native.Nat.{_<_};
-ghost use Rattle.rules.specs.Frame.{reversed};
 
 // The order of the 128 rows: the i-th row read is i with its seven bits reversed.
-const ROWS: [u8; 128] = [
+pub const ROWS: [u8; 128] = [
     0,
     64,
     32,
@@ -136,16 +134,8 @@ const ROWS: [u8; 128] = [
 ];
 
 // A byte as an index.
-fn octet(x: u8) -> usize
+pub fn octet(x: u8) -> usize
     ensures { λ r. ⌜ r ≡ x ⌝ }
 {
     x as usize
-}
-
-// The i-th row read.
-pub fn row_of(i: usize) -> usize
-    requires { ⌜ i < 128 ⌝ }
-    ensures { λ r. ⌜ r ≡ reversed 7 i ⌝ }
-{
-    octet(ROWS[i])
 }

@@ -4,6 +4,9 @@ use Prim.Native.Nat.{ℕ, _-_, _≤_}
 use mathlib.Core.Path.{_≡_, refl, sym, ap, _∙_}
 use native.Mathlib.Omega.{arith}
 use lib.ListN.{length, getD, length-set}
+use Rattle.counting.specs.Search.{tabulate}
+use Rattle.counting.proofs.Lists.{getD-tabulate}
+use Rattle.rules.specs.Frame.{reversed}
 use Rattle.frame.specs.Rows.{rowsBefore}
 use Rattle.cells.specs.Loops.{rank7}
 use Rattle.cells.proofs.Walk.{Filled, filled-next}
@@ -26,13 +29,17 @@ abbrev μ-loop : tie.MeasureT-loop
 loop-holds : tie.Need-loop-holds Inv-loop2 μ-loop2 Inv-loop μ-loop
 loop-holds c = (omega arith, refl, sym (rows-none 7 _), λ q h l. absurd (omega arith))
 
-row-of-requires : tie.Need-row-of-requires Inv-loop2 μ-loop2 Inv-loop μ-loop
-row-of-requires c κs = search needs
+array-read-octet : tie.Need-array-read-octet Inv-loop2 μ-loop2 Inv-loop μ-loop
+array-read-octet c = search needs
+
+octet-requires : tie.Need-octet-requires Inv-loop2 μ-loop2 Inv-loop μ-loop
+octet-requires c κs = search needs
 
 loop2-holds : tie.Need-loop2-holds Inv-loop2 μ-loop2 Inv-loop μ-loop
+unfolding tabulate reversed
 loop2-holds c =
     let l = c .before .before .loop in
-    (first7 _ (l .i) (c .row-of .result) (l .rank) (search needs) (c .row-of .ensures) (l .inv .2), refl, l .inv .3)
+    (first7 _ (l .i) (c .octet .result) (l .rank) (search needs) (c .octet .ensures ∙ getD-tabulate (reversed 7) 128 0 (l .i) (search needs)) (l .inv .2), refl, l .inv .3)
 
 mul-kc : tie.Need-mul-kc Inv-loop2 μ-loop2 Inv-loop μ-loop
 mul-kc c =
@@ -101,7 +108,8 @@ cell-carriers-spec =
     Inv-loop
     μ-loop
     loop-holds
-    row-of-requires
+    array-read-octet
+    octet-requires
     loop2-holds
     mul-kc
     shared-slice-read-kc

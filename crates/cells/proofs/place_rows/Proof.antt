@@ -5,6 +5,9 @@ use mathlib.Core.Path.{_≡_, refl, sym, ap, _∙_}
 use mathlib.Core.List.{List}
 use native.Mathlib.Omega.{arith}
 use lib.ListN.{length, getD, length-set}
+use Rattle.counting.specs.Search.{tabulate}
+use Rattle.counting.proofs.Lists.{getD-tabulate}
+use Rattle.rules.specs.Frame.{reversed}
 use Rattle.frame.specs.Rows.{rowsBefore}
 use Rattle.cells.specs.Loops.{stores, cell7}
 use Rattle.cells.proofs.Stores.{stores-next}
@@ -28,13 +31,17 @@ loop-holds : tie.Need-loop-holds Inv-loop2 μ-loop2 Inv-loop μ-loop
 unfolding stores
 loop-holds c = (omega arith, refl, sym (rows-none 7 _), refl)
 
-row-of-requires : tie.Need-row-of-requires Inv-loop2 μ-loop2 Inv-loop μ-loop
-row-of-requires c κs = search needs
+array-read-octet : tie.Need-array-read-octet Inv-loop2 μ-loop2 Inv-loop μ-loop
+array-read-octet c = search needs
+
+octet-requires : tie.Need-octet-requires Inv-loop2 μ-loop2 Inv-loop μ-loop
+octet-requires c κs = search needs
 
 loop2-holds : tie.Need-loop2-holds Inv-loop2 μ-loop2 Inv-loop μ-loop
+unfolding tabulate reversed
 loop2-holds c =
     let l = c .before .before .loop in
-    (first7 _ (l .i) (c .row-of .result) (l .rank) (search needs) (c .row-of .ensures) (l .inv .2), refl, λ y e. e)
+    (first7 _ (l .i) (c .octet .result) (l .rank) (search needs) (c .octet .ensures ∙ getD-tabulate (reversed 7) 128 0 (l .i) (search needs)) (l .inv .2), refl, λ y e. e)
 
 mul-wide : tie.Need-mul-wide Inv-loop2 μ-loop2 Inv-loop μ-loop
 mul-wide c =
@@ -123,7 +130,8 @@ place-rows-spec =
     Inv-loop
     μ-loop
     loop-holds
-    row-of-requires
+    array-read-octet
+    octet-requires
     loop2-holds
     mul-wide
     shared-slice-read-wide
