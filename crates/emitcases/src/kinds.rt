@@ -7,7 +7,7 @@ const STORE: usize = 120000;
 const SYMBOL: usize = 4096;
 
 // Whether a step emits; the others flush.
-pub fn emits(kind: u8) -> bool {
+pub(crate) fn emits(kind: u8) -> bool {
     if kind == 0 {
         return true;
     }
@@ -30,7 +30,7 @@ pub fn emits(kind: u8) -> bool {
 }
 
 // How many data cells a step is given.
-pub fn count_of(kind: u8, nd: usize) -> usize {
+pub(crate) fn count_of(kind: u8, nd: usize) -> usize {
     if kind == 12 {
         return 0;
     }
@@ -59,7 +59,7 @@ pub fn count_of(kind: u8, nd: usize) -> usize {
 }
 
 // The phase that a step is given.
-pub fn phase_of(kind: u8, phase: u32) -> u32 {
+pub(crate) fn phase_of(kind: u8, phase: u32) -> u32 {
     if kind == 5 {
         return std::num::wrapping_add_u32(phase, 128);
     }
@@ -70,7 +70,7 @@ pub fn phase_of(kind: u8, phase: u32) -> u32 {
 }
 
 // The row that a step is given; M is a plan's byte 7.
-pub fn row_of(kind: u8, row: u32, m: u32) -> u32 {
+pub(crate) fn row_of(kind: u8, row: u32, m: u32) -> u32 {
     if kind == 16 {
         return m;
     }
@@ -87,7 +87,7 @@ pub fn row_of(kind: u8, row: u32, m: u32) -> u32 {
 }
 
 // How many cells of the store a step is lent; `need` is M times N_I.
-pub fn store_of(kind: u8, need: usize) -> usize {
+pub(crate) fn store_of(kind: u8, need: usize) -> usize {
     if need == 0 {
         return 0;
     }
@@ -107,7 +107,7 @@ pub fn store_of(kind: u8, need: usize) -> usize {
 }
 
 // How many cells of the symbol a step is lent.
-pub fn symbol_of(kind: u8) -> usize {
+pub(crate) fn symbol_of(kind: u8) -> usize {
     if kind == 8 {
         return 4095;
     }
@@ -124,7 +124,7 @@ pub fn symbol_of(kind: u8) -> usize {
 }
 
 // Where a step has its first cell that is no data; n where it has none.
-pub fn above_at(kind: u8, n: usize) -> usize {
+pub(crate) fn above_at(kind: u8, n: usize) -> usize {
     if kind == 4 {
         return n / 2;
     }
@@ -141,7 +141,7 @@ pub fn above_at(kind: u8, n: usize) -> usize {
 }
 
 // What stands there.
-pub fn above(kind: u8) -> u16 {
+pub(crate) fn above(kind: u8) -> u16 {
     if 15 <= kind {
         return 32768;
     }
@@ -149,7 +149,7 @@ pub fn above(kind: u8) -> u16 {
 }
 
 // Where a step has a cell of 65535; n where it has none.
-pub fn last_at(kind: u8, n: usize) -> usize {
+pub(crate) fn last_at(kind: u8, n: usize) -> usize {
     if n == 0 {
         return n;
     }
