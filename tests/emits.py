@@ -79,24 +79,19 @@ sent, how many refused, the checksum.  If the fresh start was refused:
 import sys
 from dataclasses import fields, replace
 from itertools import chain, permutations, repeat
-from operator import mul
-from pathlib import Path
 
 sys.dont_write_bytecode = True
 
 import emitter
 import plans
+import stored
 from emitter import Emitter, EmitterLimits
 from make_plans import all_plans
 from model import Limits
 from plans import (PLAN_A, band_below, entries, equal_12, near_a, near_b, outside, plan,
                    second, singles, spread)
+from stored import PRIME, mix, mix_cells
 
-ROOT = Path(__file__).resolve().parent.parent
-STDIN = ROOT / 'crates' / 'emitcases' / 'stdin'
-STDOUT = ROOT / 'crates' / 'emitcases' / 'stdout'
-
-PRIME = 2147483647
 STORE = 120000
 SYMBOL = 4096
 UNTOUCHED = 43981
@@ -213,36 +208,6 @@ def all_cases():
 
 
 # --- the lines -------------------------------------------------------------
-
-def mix(total, numbers):
-    """A polynomial modulo the prime 2^31 - 1, so that the order counts."""
-    for v in numbers:
-        total = (total * 48271 + v) % PRIME
-    return total
-
-
-POWERS = [pow(48271, SYMBOL - 1 - i, PRIME) for i in range(SYMBOL)]
-
-
-class Blocks:
-    """What up to 4,096 cells add to a checksum.  The last is kept: a refused step
-    leaves the symbol as it was, and much of the store is alike."""
-    last, added = [], 0
-
-    @classmethod
-    def add(cls, block):
-        if block != cls.last:
-            cls.last, cls.added = block, sum(map(mul, block, POWERS[-len(block):]))
-        return cls.added
-
-
-def mix_cells(total, cells):
-    """The same for many cells, faster: 4,096 of them at a time."""
-    for at in range(0, len(cells), SYMBOL):
-        block = cells[at:at + SYMBOL]
-        total = (total * pow(48271, len(block), PRIME) + Blocks.add(block)) % PRIME
-    return total
-
 
 class Generator:
     """The data cells of a case."""
@@ -1059,27 +1024,13 @@ def all_mutants():
 
 
 def try_mutants(cases, lines):
-    """Prints which line each mutant changes first.  Answers how many change
-    none, or change one though they are equivalent.  The equivalent ones are tried
-    on the first 40 cases, which come before the larger plans."""
-    names = set()
-    killed = survived = wrong = 0
-    for name, model in all_mutants():
-        assert name not in names, 'two mutants named ' + name
-        names.add(name)
+    """The equivalent ones are tried on the first 40 cases, which come before the
+    larger plans."""
+    def change_of(name, model):
         tried = zip(cases[:40] if name in EQUIVALENT else cases, lines)
-        changed = next((case[0] for case, want in tried
-                        if line_of(model, *case[1:4]) != want), None)
-        killed += changed is not None
-        survived += changed is None and name not in EQUIVALENT
-        wrong += (changed is None) != (name in EQUIVALENT)
-        verdict = ('killed     ' if changed else 'equivalent ' if name in EQUIVALENT
-                   else 'SURVIVED   ')
-        print('%s%-62s %s' % (verdict, name, changed or EQUIVALENT.get(name, '')), flush=True)
-    assert set(EQUIVALENT) <= names, 'a listed mutant that is none'
-    print('%d mutants, %d killed, %d equivalent, %d survived; %d cases'
-          % (len(names), killed, len(EQUIVALENT), survived, len(cases)))
-    return wrong
+        return next((case[0] for case, want in tried
+                     if line_of(model, *case[1:4]) != want), None)
+    return stored.try_mutants(all_mutants(), change_of, EQUIVALENT, len(cases))
 
 
 # --- the run ---------------------------------------------------------------
@@ -1089,19 +1040,7 @@ def main():
     cases, lines, given, wanted = make()
     print('%d cases, %d steps, %d bytes'
           % (len(cases), sum(len(case[3]) for case in cases), len(given)))
-    wrong = 0
-    if '--check' in sys.argv[1:]:
-        for path, want in ((STDIN, given), (STDOUT, wanted)):
-            if not path.exists() or path.read_bytes() != want:
-                print('differs: %s' % path.relative_to(ROOT))
-                wrong = 1
-    if '--mutants' in sys.argv[1:]:
-        wrong += try_mutants(cases, lines)
-    if len(sys.argv) == 1:
-        STDIN.parent.mkdir(parents=True, exist_ok=True)
-        STDIN.write_bytes(given)
-        STDOUT.write_bytes(wanted)
-    sys.exit(1 if wrong else 0)
+    stored.run('emitcases', given, wanted, lambda: try_mutants(cases, lines))
 
 
 if __name__ == '__main__':

@@ -48,6 +48,9 @@ class Given(NamedTuple):
     store: Optional[list] = None
     data: Optional[list] = None     # a flush is given none
     symbol: Optional[list] = None
+    heard: Optional[int] = None     # this and the rest only by a receive step
+    arriving: Optional[list] = None
+    buffer: Optional[list] = None
 
 
 class Layout:
@@ -57,12 +60,14 @@ class Layout:
         self.map = p
         self.m = p.m
         self.subcarriers = emitter.ranks_of(p)              # of each rank
+        self.ranked = set(self.subcarriers)
         self.n = len(self.subcarriers)                      # N_I
         self.ranks = emitter.ranks_of_cells(self.n)         # of each cell
         self.carriers = [self.subcarriers[rank] for rank in self.ranks]     # of each cell
         self.marks = [emitter.mark(p, k) for k in range(len(p.excluded))]
         self.placeholders = {}      # by phase
         self.sources = {}           # by row
+        self.marks_at = {}          # by phase, of the arriving symbol
 
 
 class Emitter(Model):

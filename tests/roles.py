@@ -20,19 +20,16 @@ from collections import Counter
 from dataclasses import replace
 from functools import lru_cache
 from itertools import chain, permutations
-from pathlib import Path
 
 sys.dont_write_bytecode = True
 
 import plans
+import stored
 from make_plans import all_plans
 from model import PHASES, Limits, Map, Model
 from mutants import off_chain
 from plans import PLAN_A, entries, full, near_a, near_b, outside, plan, record, singles, spread
-
-ROOT = Path(__file__).resolve().parent.parent
-STDIN = ROOT / 'crates' / 'rolecases' / 'stdin'
-STDOUT = ROOT / 'crates' / 'rolecases' / 'stdout'
+from stored import mix
 
 KINDS = ('excluded', 'plc', 'continuous', 'scattered', 'data', 'refused')
 # Every subcarrier, and three that are none; 66388 is 852 in its low 16 bits.
@@ -107,20 +104,12 @@ def all_cases():
 
 # --- the lines -------------------------------------------------------------
 
-def checksum(numbers):
-    """A polynomial modulo the prime 2^31 - 1, so that the order counts."""
-    total = 0
-    for x in numbers:
-        total = (total * 48271 + x) % 2147483647
-    return total
-
-
 def pilots_line(model):
     """Of an L that ground 4 refuses there are no pilots: eight zeros."""
     x = model.limits
-    return '%d' % checksum(
+    return '%d' % mix(0, (
         k for l in range(65536)
-        for k in (model.predefined(l) if x.lowest_l <= l <= x.highest_l else [0] * 8))
+        for k in (model.predefined(l) if x.lowest_l <= l <= x.highest_l else [0] * 8)))
 
 
 @lru_cache(maxsize=None)
@@ -133,7 +122,7 @@ def role_line(model, data, phase):
     answers = [numbers_of(model.role(data, k, phase)) for k in ASKED]
     counts = Counter(numbers[0] for numbers in answers)
     return '%s %d' % (' '.join('%d' % counts[n + 1] for n in range(len(KINDS))),
-                      checksum(chain.from_iterable(answers)))
+                      mix(0, chain.from_iterable(answers)))
 
 
 def remembering(model):
@@ -177,6 +166,10 @@ def make():
 
 NO_PAIR = ('The three never meet on an accepted plan: ground 7 keeps exclusions 56 off the PLC, '
            'the predefined pilots stand 15 to 47 off it, and ground 8 keeps the further ones off all.')
+
+
+EQUIVALENT = {'order: ' + ', '.join((*order, 'scattered')): NO_PAIR
+              for order in permutations(KINDS[:3]) if order != KINDS[:3]}
 
 
 def bent(**methods):
@@ -329,25 +322,15 @@ def range_mutants():
 
 
 def try_mutants():
-    """Prints which line each mutant changes first.  Answers how many change
-    none, or change one though listed as equivalent."""
     cases = all_cases()
     names = [case[0] for case in cases] + ['the pilots']
     sound = list(lines_of(Model(), cases))
-    tried = killed = survived = wrong = 0
-    for name, model in (*pilot_mutants(), *grid_mutants(), *map_mutants(), *range_mutants()):
-        tried += 1
-        equivalent = name.startswith('order: ') and name.endswith('scattered')
-        changed = next((where for where, want, got in zip(names, sound, lines_of(model, cases))
-                        if got != want), None)
-        killed += changed is not None
-        survived += changed is None and not equivalent
-        wrong += (changed is None) != equivalent
-        verdict = ('killed      ' if changed else 'equivalent  ' if equivalent else 'SURVIVED    ')
-        print('%s%-62s %s' % (verdict, name, changed or (NO_PAIR if equivalent else '')))
-    print('%d mutants, %d killed, %d equivalent, %d survived; %d cases'
-          % (tried, killed, tried - killed - survived, survived, len(cases)))
-    return wrong
+
+    def change_of(_, model):
+        return next((where for where, want, got in zip(names, sound, lines_of(model, cases))
+                     if got != want), None)
+    mutants = (*pilot_mutants(), *grid_mutants(), *map_mutants(), *range_mutants())
+    return stored.try_mutants(mutants, change_of, EQUIVALENT, len(cases))
 
 
 # --- the run ---------------------------------------------------------------
@@ -355,19 +338,7 @@ def try_mutants():
 def main():
     given, wanted, count = make()
     print('%d cases, %d bytes' % (count, len(given)))
-    wrong = 0
-    if '--check' in sys.argv[1:]:
-        for path, want in ((STDIN, given), (STDOUT, wanted)):
-            if not path.exists() or path.read_bytes() != want:
-                print('differs: %s' % path.relative_to(ROOT))
-                wrong = 1
-    if '--mutants' in sys.argv[1:]:
-        wrong += try_mutants()
-    if len(sys.argv) == 1:
-        STDIN.parent.mkdir(parents=True, exist_ok=True)
-        STDIN.write_bytes(given)
-        STDOUT.write_bytes(wanted)
-    sys.exit(1 if wrong else 0)
+    stored.run('rolecases', given, wanted, try_mutants)
 
 
 if __name__ == '__main__':

@@ -33,6 +33,10 @@ pub bit-le : (b : Bool) → bit b ≤ 1
 bit-le true = le-refl 1
 bit-le false = zero-le
 
+pub bit-true : (b : Bool) → 1 ≤ bit b → b ≡ true
+bit-true true h = refl
+bit-true false h = absurd (omega arith)
+
 pub count-le : (p : ℕ → Bool) (n : ℕ) → count p n ≤ n
 unfolding count sum
 count-le p zero = zero-le

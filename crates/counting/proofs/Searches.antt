@@ -84,6 +84,11 @@ unfolding first
 first-ext f g zero h = refl
 first-ext f g (suc n) h = ap₂ orElse (first-ext f g n (λ k l. h k (le-trans l (le-suc n)))) (h n (le-refl (suc n)))
 
+-- tests that agree below n find the same
+pub lowest-ext : (t u : ℕ → Bool) (n : ℕ) → ((k : ℕ) → k < n → t k ≡ u k) → lowest t n ≡ lowest u n
+unfolding lowest
+lowest-ext t u n h = first-ext (λ k. when (t k) k) (λ k. when (u k) k) n (λ k l. ap (λ (b : Bool). when b k) (h k l))
+
 -- a loop that searches: nothing yet, and found
 pub search-on : (f : ℕ → Option ℕ) (j : ℕ) → first f j ≡ none → f j ≡ none → first f (j + 1) ≡ none
 unfolding first

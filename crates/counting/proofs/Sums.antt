@@ -10,6 +10,7 @@ use native.Mathlib.Omega.{arith}
 use lib.Dec.{eqb}
 use borrow.Author.Tests.{eq-eqb, ne-eqb}
 use Rattle.counting.specs.Search.{bit, pick, sum, count, when, orElse, highest, find}
+use Rattle.counting.proofs.Laws.{bit-le, bit-true}
 
 pub bit-not : (b : Bool) → bit b + bit (not b) ≡ 1
 bit-not true = refl
@@ -86,6 +87,11 @@ all-one f n h e p l = go (decLt 0 (f p))
     go : Dec (0 < f p) → 1 ≤ f p
     go (yes c) = c
     go (no c) = absurd (omega (arith, sum-lt f (λ i. 1) n h p l (omega arith), sum-const 1 n))
+
+-- where n of n pass, each does
+pub all-pass : (t : ℕ → Bool) (n : ℕ) → count t n ≡ n → (k : ℕ) → k < n → t k ≡ true
+unfolding count
+all-pass t n e k h = bit-true (t k) (all-one (λ i. bit (t i)) n (λ i l. bit-le (t i)) e k h)
 
 -- those that pass and those that do not
 pub count-not : (t : ℕ → Bool) (n : ℕ) → count t n + count (λ i. not (t i)) n ≡ n

@@ -1,20 +1,20 @@
 -- A loop that goes through a list by steps of m, and loops that do so for one residue after the other. Assumes nothing.
-use Prim.Native.Nat.{ℕ, _+_, _-_, _*_, _%_, _≤_, _<_}
+use Prim.Native.Nat.{ℕ, suc, _+_, _-_, _*_, _%_, _≤_, _<_}
 use mathlib.Core.Path.{_≡_, refl, sym, ap, _∙_}
 use mathlib.Core.Logic.{by-cases}
-use mathlib.Core.List.{List}
+use mathlib.Core.List.{List, _++_, append-assoc}
 use native.Mathlib.Nat.{mod-lt, mod-eq-of-lt, add-mod-right, mod-add-mod}
 use native.Mathlib.Decide.{decLt, ℕ-discrete}
 use native.Mathlib.Omega.{arith}
 use lib.Dec.{eqb}
 use lib.ListN.{length, getD, set, take, drop, length-take, length-drop}
-use lib.Seq.{getD-set-same, getD-set-other, getD-take, getD-drop, sets}
+use lib.Seq.{getD-set-same, getD-set-other, getD-take, getD-drop, sets, sets-eq, drop-drop}
 use borrow.Author.Tests.{eq-eqb, ne-eqb}
 use Rattle.counting.specs.Search.{pick, tabulate}
 use Rattle.counting.proofs.Lists.{getD-tabulate, tabulate-cong, is-tabulate, getD-sets-in}
 use Rattle.counting.proofs.Orders.{same-mod}
-use Rattle.rules.specs.Store.{cellAt, putRow, delayed}
-use Rattle.delay.proofs.Ring.{row-fits}
+use Rattle.rules.specs.Store.{cellAt, putRow, nextRow, delayed}
+use Rattle.delay.proofs.Ring.{row-fits, row-next}
 
 -- ---- steps of m
 
@@ -88,7 +88,14 @@ part-at s a e n q ee h = let k : q < e - a = omega arith in rw (getD-take, getD-
 pub part-length : (s : List ℕ) (a e n : ℕ) → e ≡ a + n → a + n ≤ length s → length (take (e - a) (drop a s)) ≡ n
 part-length s a e n ee h = simp (length-take, length-drop) (omega arith)
 
--- ---- rows back around the ring
+-- a list put in the place of a part as long
+pub put-part : (s ys : List ℕ) (a n : ℕ) → length ys ≡ n → a + n ≤ length s → (take a s ++ (ys ++ drop (a + n - a) (drop a s))) ≡ sets s a ys
+put-part s ys a n e h =
+    let k : a + (a + n - a) ≡ a + length ys = omega arith in
+    ap (λ (r : List ℕ). take a s ++ (ys ++ r)) (drop-drop (a + n - a) a s ∙ ap (λ (i : ℕ). drop i s) k)
+    ∙ sym (append-assoc (take a s) ys (drop (a + length ys) s)) ∙ sym (sets-eq ys s a (omega arith))
+
+-- ---- rows back and on around the ring
 pub row-here : (m row z : ℕ) → row < m → z ≡ 0 → row ≡ (row + (m - z)) % m
 row-here m row z h e = sym (ap (λ (x : ℕ). (row + x) % m) (let d : m - z ≡ m = omega arith in d) ∙ add-mod-right row m ∙ mod-eq-of-lt h)
 
@@ -97,9 +104,13 @@ row-off m row d r x one h er ex =
     ex ∙ ap (λ (z : ℕ). (z + (m - 1)) % m) er ∙ mod-add-mod (row + (m - (d - 1))) m (m - 1)
     ∙ ap (λ (z : ℕ). z % m) (let e : row + (m - (d - 1)) + (m - 1) ≡ row + (m - d) + m = omega arith in e) ∙ add-mod-right (row + (m - d)) m
 
--- the row before another one of the ring lies within the store
-pub back-fits : (m n r x len : ℕ) → 0 < m → x ≡ (r + (m - 1)) % m → m * n ≤ len → x * n + n ≤ len
-back-fits m n r x len pos e h = row-fits m n n x len (rw e (mod-lt (r + (m - 1)) pos)) refl h
+pub row-on : (m row d r x : ℕ) → r ≡ (row + d) % m → x ≡ nextRow m r → x ≡ (row + (d + 1)) % m
+row-on m row d r x er ex =
+    ex ∙ ap (nextRow m) er ∙ row-next m (row + d) ∙ ap (λ (z : ℕ). z % m) (let e : suc (row + d) ≡ row + (d + 1) = omega arith in e)
+
+-- a row of the ring lies within the store
+pub ring-fits : (m n z x len : ℕ) → 0 < m → x ≡ z % m → m * n ≤ len → x * n + n ≤ len
+ring-fits m n z x len pos e h = row-fits m n n x len (rw e (mod-lt z pos)) refl h
 
 -- ---- cells of residue 0 in place, the others from the row that lies so many back
 unfoldable pub lifted : ℕ → ℕ → ℕ → List ℕ → List ℕ → ℕ → ℕ
@@ -129,3 +140,17 @@ lifted-delayed m n row s l en hr hs =
     (sym (ap (λ (r : ℕ). getD (sets s (row * n) l) (r * n + q) 0) (sym (row-here m row (q % m) hr e))
     ∙ getD-sets-in s (row * n) l 0 q (omega arith) (omega (arith, row-fits m n n row (length s) hr refl hs)))))
     (λ e. rw (ne-eqb (q % m) 0 e) refl))
+
+-- ---- every cell from the row m - 1 less its residue back
+unfoldable pub gathered : ℕ → ℕ → ℕ → List ℕ → ℕ → ℕ
+gathered m n row s q = cellAt n s ((row + (m - (m - 1 - q % m))) % m) q
+
+-- the cells of residue d stand in the row x, d + 1 rows on
+pub gather-new : (m n row d x : ℕ) (s : List ℕ) (q : ℕ) → d < m → x ≡ (row + (d + 1)) % m → q % m ≡ d → getD s (x * n + q) 0 ≡ gathered m n row s q
+unfolding gathered cellAt
+gather-new m n row d x s q h ex eq =
+    ap (λ (r : ℕ). getD s (r * n + q) 0) (ex ∙ ap (λ (z : ℕ). (row + z) % m) (let e : d + 1 ≡ m - (m - 1 - q % m) = omega arith in e))
+
+pub gathered-delayed : (m n row : ℕ) (s : List ℕ) → tabulate (gathered m n row s) n ≡ delayed m n (λ p. m - 1 - p % m) s row
+unfolding gathered delayed
+gathered-delayed m n row s = refl

@@ -1,5 +1,5 @@
 // The delay, a ring of rows in a flat store: a symbol's cells go into the current row, and come out one residue of the depth after
-// the other, each from the row that lies so many steps back.
+// the other, each from the row that lies so many steps back: p mod m for the emitter's cell p, m - 1 - p mod m for the receiver's.
 ghost use mathlib.Core.Path.{_≡_};
 ghost use Prim.Native.Nat.{_+_, _-_, _*_, _%_, _≤_, _<_};
 ghost use lib.ListN.{length, getD};
@@ -75,4 +75,22 @@ pub fn delay(m: usize, row: usize, store: &mut [u16], cells: &mut [u16])
     let n = cells.len();
     put_at(store, cells, row * n);
     lift(m, row, store, cells);
+}
+
+// The receiver's delay, the oldest row first: cell p comes from the row m - 1 - p mod m back.
+pub fn gather(m: usize, row: usize, store: &[u16], cells: &mut [u16])
+    requires { ⌜ (row < m) × (m ≤ 4096) × (length (now cells) ≤ 4096) × (m * length (now cells) ≤ length (now store)) ⌝ }
+    ensures { λ _. ⌜ now (cells .exit) ≡ delayed m (length (now (cells .entry))) (λ p. m - 1 - p % m) (now (store .entry)) row ⌝ }
+{
+    let n = cells.len();
+    let mut left = m;
+    let mut r = row;
+    while left > 0 {
+        let d = m - left;
+        r = next_row(r, m);
+        let from = r * n;
+        let to = from + n;
+        line(m, d, &store[from..to], cells);
+        left = left - 1;
+    }
 }

@@ -1,10 +1,12 @@
-// Sends symbols with `emitter::fresh_emitter`, `emit` and `flush`, asks `cells::data_count`, and prints what tests/emits.py works out with
-// the second model: a line for each case, how many steps were sent and how many refused, and the checksum of every answer, of the symbol
-// after each step and of the store at the end. A fresh start that is refused prints `refused`, number, place and the checksum.
+// Sends symbols with `fresh::fresh_emitter`, `emitter::emit` and `emitter::flush`, asks `cells::data_count`, and prints what
+// tests/emits.py works out with the second model: a line for each case, how many steps were sent and how many refused, and the checksum
+// of every answer, of the symbol after each step and of the store at the end. A fresh start that is refused prints `refused`, number,
+// place and the checksum.
 // Standard input holds, for each case, the plan's length, the starting phase and the number of steps as four bytes each, high byte first
 // and the upper two of both lengths zero; then the plan, and a byte for each step. tests/emits.py says what the bytes stand for and makes
 // stdin and stdout.
-ghost use Prim.Native.Nat.{_≤_, _<_};
+ghost use Prim.Native.Nat.{_<_};
+ghost use Rattle.io.specs.Counts.{Counts};
 
 mod kinds;
 
@@ -24,17 +26,24 @@ struct Run {
     refused: u32,
 }
 
-// The cells of a symbol.
+// The cells of the store, of a symbol, and of the room for one.
+const STORE: usize = 120000;
+
 const SYMBOL: usize = 4096;
 
-// The lower of two lengths.
-fn at_most(n: usize, len: usize) -> usize
-    ensures { λ r. ⌜ r ≤ len ⌝ }
+const ROOM: usize = 4097;
+
+// What stands in all cells at the start of a case.
+const BEFORE: u16 = 43981;
+
+// How many of the cells to lend: n, or all where there are fewer.
+fn at_most(n: usize, cells: &[u16]) -> usize
+    ensures { λ r. ⌜ Counts r (now (cells .entry)) ⌝ }
 {
-    if n < len {
+    if n < cells.len() {
         return n;
     }
-    len
+    cells.len()
 }
 
 // The checksum with one number more: a polynomial modulo the prime 2^31 - 1, so that the order counts.
@@ -66,7 +75,7 @@ fn mixed_cells(sum: u32, cells: &[u16]) -> u32 {
 
 // The checksum with the first n cells more.
 fn mixed_first(sum: u32, cells: &[u16], n: usize) -> u32 {
-    let first = at_most(n, cells.len());
+    let first = at_most(n, cells);
     mixed_cells(sum, &cells[..first])
 }
 
@@ -134,10 +143,12 @@ fn wide(x: u8) -> u32 {
     x as u32
 }
 
-// The product of two numbers, the second at most 4096.
+// The product of two numbers, the second at most 4096; 0 of others.
 fn times(m: u32, n: u32) -> usize {
-    let cells = at_most(n as usize, 4096);
-    (m as usize) * cells
+    if 4096 < n {
+        return 0;
+    }
+    (m as usize) * (n as usize)
 }
 
 // Puts x into a cell, if there is such a cell.
@@ -198,8 +209,8 @@ fn emit_cells(
 ) -> Run {
     let mut next = run;
     next.x = filled(run.x, kind, cells);
-    let rows = at_most(kinds::store_of(kind, need), store.len());
-    let width = at_most(kinds::symbol_of(kind), symbol.len());
+    let rows = at_most(kinds::store_of(kind, need), store);
+    let width = at_most(kinds::symbol_of(kind), symbol);
     let answer = emitter::emit(
         plan,
         state_of(run, kind, plan),
@@ -220,10 +231,7 @@ fn emit_step(
     buf: &mut [u16],
     symbol: &mut [u16],
 ) -> Run {
-    let n = at_most(
-        kinds::count_of(kind, data_count(plan, run.phase)),
-        buf.len(),
-    );
+    let n = at_most(kinds::count_of(kind, data_count(plan, run.phase)), buf);
     emit_cells(run, kind, plan, need, store, &mut buf[..n], symbol)
 }
 
@@ -236,8 +244,8 @@ fn flush_step(
     store: &mut [u16],
     symbol: &mut [u16],
 ) -> Run {
-    let rows = at_most(kinds::store_of(kind, need), store.len());
-    let width = at_most(kinds::symbol_of(kind), symbol.len());
+    let rows = at_most(kinds::store_of(kind, need), store);
+    let width = at_most(kinds::symbol_of(kind), symbol);
     let answer = emitter::flush(
         plan,
         state_of(run, kind, plan),
@@ -253,12 +261,12 @@ fn step(
     kind: u8,
     plan: &[u8],
     need: usize,
-    store: &mut [u16],
-    buf: &mut [u16],
-    symbol: &mut [u16],
+    store: &mut [u16; STORE],
+    symbol: &mut [u16; ROOM],
 ) -> Run {
     if kinds::emits(kind) {
-        return emit_step(run, kind, plan, need, store, buf, symbol);
+        let mut buf = [0u16; SYMBOL];
+        return emit_step(run, kind, plan, need, store, &mut buf, symbol);
     }
     flush_step(run, kind, plan, need, store, symbol)
 }
@@ -291,26 +299,17 @@ fn skip(count: u32) {
     }
 }
 
-// The steps of a case from its fresh start on, and its line.
-fn steps(
-    start: Run,
-    plan: &[u8],
-    need: usize,
-    count: u32,
-    store: &mut [u16],
-    buf: &mut [u16],
-    symbol: &mut [u16],
-) -> bool {
+// The run after so many steps.
+fn steps(start: Run, plan: &[u8], need: usize, count: u32, store: &mut [u16; STORE]) -> Run {
+    let mut symbol = [BEFORE; ROOM];
     let mut run = start;
     let mut left = count;
     while 0 < left {
-        let next = step(run, next_kind(), plan, need, store, buf, symbol);
+        let next = step(run, next_kind(), plan, need, store, &mut symbol);
         run = next;
         left -= 1;
     }
-    print_number(run.sent);
-    print_number(run.refused);
-    print_last(mixed_cells(run.sum, store))
+    run
 }
 
 // M times N_I of an accepted plan, 0 of another.
@@ -331,13 +330,13 @@ fn mixed_start(sum: u32, answer: StartAnswer) -> u32 {
 
 // The checksum with the answer of a fresh start in so many cells of the store more.
 fn mixed_part(sum: u32, plan: &[u8], phase: u32, size: usize, store: &mut [u16]) -> u32 {
-    let rows = at_most(size, store.len());
-    mixed_start(sum, emitter::fresh_emitter(plan, phase, &mut store[..rows]))
+    let rows = at_most(size, store);
+    mixed_start(sum, fresh::fresh_emitter(plan, phase, &mut store[..rows]))
 }
 
 // The checksum with two fresh starts of an accepted plan more: in one cell too few, which leaves the first cells as they were, and in
 // just enough.
-fn mixed_tight(sum: u32, plan: &[u8], phase: u32, need: usize, store: &mut [u16]) -> u32 {
+fn mixed_tight(sum: u32, plan: &[u8], phase: u32, need: usize, store: &mut [u16; STORE]) -> u32 {
     if need == 0 {
         return sum;
     }
@@ -355,34 +354,50 @@ fn no_steps(number: u32, place: u32, count: u32, sum: u32) -> bool {
     print_last(sum)
 }
 
-// A case with its plan read: N_D, the fresh starts, the steps.
-fn start(plan: &[u8], phase: u32, count: u32) -> bool {
-    let mut store = [43981u16; 120000];
+// The steps of a case from its fresh start on, and its line.
+fn started(
+    state: EmitterState,
+    sum: u32,
+    plan: &[u8],
+    need: usize,
+    count: u32,
+    store: &mut [u16; STORE],
+) -> bool {
+    let begun = Run {
+        phase: state.phase,
+        row: state.row,
+        x: 1,
+        sum,
+        sent: 0,
+        refused: 0,
+    };
+    let run = steps(begun, plan, need, count, store);
+    print_number(run.sent);
+    print_number(run.refused);
+    print_last(mixed_cells(run.sum, store))
+}
+
+// A case in this store: N_D, the fresh starts, the steps.
+fn start_in(plan: &[u8], phase: u32, count: u32, store: &mut [u16; STORE]) -> bool {
     let need = need_of(plan);
-    let sum = mixed_tight(mixed_counts(plan), plan, phase, need, &mut store);
-    let answer = emitter::fresh_emitter(plan, phase, &mut store);
-    let next = mixed_start(sum, answer);
+    let tight = mixed_tight(mixed_counts(plan), plan, phase, need, store);
+    let answer = fresh::fresh_emitter(plan, phase, store);
+    let sum = mixed_start(tight, answer);
     match answer {
         StartAnswer::Refused(number, place) => no_steps(
             number,
             place,
             count,
-            mixed_cells(next, &store),
+            mixed_cells(sum, store),
         ),
-        StartAnswer::Started(state) => {
-            let run = Run {
-                phase: state.phase,
-                row: state.row,
-                x: 1,
-                sum: next,
-                sent: 0,
-                refused: 0,
-            };
-            let mut buf = [0u16; 4096];
-            let mut symbol = [43981u16; 4097];
-            steps(run, plan, need, count, &mut store, &mut buf, &mut symbol)
-        }
+        StartAnswer::Started(state) => started(state, sum, plan, need, count, store),
     }
+}
+
+// A case with its plan read.
+fn start(plan: &[u8], phase: u32, count: u32) -> bool {
+    let mut store = [BEFORE; STORE];
+    start_in(plan, phase, count, &mut store)
 }
 
 // The number of four bytes, high byte first.

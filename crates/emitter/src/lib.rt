@@ -1,69 +1,31 @@
-// The emitter: a fresh start, an emit step and a flush step. The entries `fresh_emitter`, `emit` and `flush` read the plan bytes anew and
-// ask nothing of their caller; what they refuse, they leave as it was.
+// The emitter: an emit step and a flush step. The entries `emit` and `flush` read the plan bytes anew and ask nothing of their caller; what
+// they refuse, they leave as it was.
 ghost use mathlib.Core.Path.{_≡_};
 ghost use Prim.Native.Nat.{ℕ, _+_, _*_, _%_, _≤_, _<_};
 ghost use lib.ListN.{length, getD};
-ghost use lib.Seq.{sets};
 ghost use Rattle.rules.specs.Device.{phases, khz50};
 ghost use Rattle.rules.specs.Fits.{Fits};
 ghost use Rattle.rules.specs.Plan.{planOf};
-ghost use Rattle.rules.specs.Grounds.{_else_};
-ghost use Rattle.rules.specs.Frame.{frameOf, cells, carrier, inputCells, lineSymbol, flush};
-ghost use Rattle.rules.specs.Store.{putRow, nextRow, delayed, freshStore};
-ghost use Rattle.rules.specs.Steps.{leaves, stateGround16, ground17, emitStep, flushStep, starts, startStep};
+ghost use Rattle.rules.specs.Frame.{frameOf, cells, carrier, lineSymbol};
+ghost use Rattle.rules.specs.Store.{putRow, nextRow, delayed};
+ghost use Rattle.rules.specs.Steps.{leaves, emitStep, flushStep};
 ghost use Rattle.judge.specs.Studied.{Studied};
-ghost use Rattle.emitter.specs.Ready.{Ready, Spotted};
+ghost use Rattle.steps.specs.Ready.{Ready};
 use counting::Found;
 use rules::Device;
 use rules::EmitterState;
 use rules::Finding;
 use rules::SendAnswer;
-use rules::StartAnswer;
 use rules::Verdict;
-
-// Phases are 0 to 127.
-const PHASES: usize = 128;
-
-// The mark of filler.
-const FILLER: u16 = 0x8001;
-
-// Grounds 16 and 17 of an emit or flush step, for depth m and ni cells.
-fn lent_grounds(
-    d: Device,
-    plan: &[u8],
-    m: usize,
-    ni: usize,
-    state: EmitterState,
-    store: &[u16],
-    out: &[u16],
-) -> Finding
-    requires { ⌜ (m ≡ planOf (now plan) .depth) × (ni ≡ cells (frameOf d (planOf (now plan)))) × (m < 65536) × (ni ≤ 4096) ⌝ }
-    ensures { λ r. ⌜ r ≡ (stateGround16 (frameOf d (planOf (now (plan .entry)))) state else ground17 (frameOf d (planOf (now (plan .entry)))) (now (store .entry)) (now (out .entry))) ⌝ }
-{
-    if PHASES <= state.phase as usize {
-        return Finding::Ground(16, 0);
-    }
-    if m <= state.row as usize {
-        return Finding::Ground(16, 0);
-    }
-    if store.len() < m * ni {
-        return Finding::Ground(17, 0);
-    }
-    if out.len() != d.subcarriers {
-        return Finding::Ground(17, 0);
-    }
-    Finding::Fine
-}
 
 // The state of the next step: phase and row go up by one.
 fn next_state(m: usize, state: EmitterState) -> EmitterState
     requires { ⌜ (state .phase < phases) × (state .row < m) × (m ≤ 4096) ⌝ }
     ensures { λ r. ⌜ r ≡ record { phase = (state .phase + 1) % phases; row = nextRow m (state .row) } ⌝ }
 {
-    let row = delay::next_row(state.row as usize, m);
     EmitterState {
-        phase: (state.phase + 1) % 128,
-        row: row as u32,
+        phase: steps::next_phase(state.phase),
+        row: steps::next_row(state.row, m),
     }
 }
 
@@ -106,7 +68,16 @@ fn emit_in(
     ensures { λ r. ⌜ leaves r (now (store .exit)) (now (out .exit)) ≡ emitStep d (now (plan .entry)) state (now (store .entry)) (now (input .entry)) (now (out .entry)) ⌝ }
 {
     let m = plan::number_at(plan, 6);
-    if let Finding::Ground(g, place) = lent_grounds(d, plan, m, x.len(), state, store, out) {
+    if let Finding::Ground(g, place) = steps::lent_grounds(
+        d,
+        plan,
+        m,
+        x.len(),
+        state.phase,
+        state.row,
+        store,
+        out,
+    ) {
         return SendAnswer::Refused(g, place, state);
     }
     let next = next_state(m, state);
@@ -139,7 +110,16 @@ fn flush_in(
     ensures { λ r. ⌜ leaves r (now (store .exit)) (now (out .exit)) ≡ flushStep d (now (plan .entry)) state (now (store .entry)) (now (out .entry)) ⌝ }
 {
     let m = plan::number_at(plan, 6);
-    if let Finding::Ground(g, place) = lent_grounds(d, plan, m, x.len(), state, store, out) {
+    if let Finding::Ground(g, place) = steps::lent_grounds(
+        d,
+        plan,
+        m,
+        x.len(),
+        state.phase,
+        state.row,
+        store,
+        out,
+    ) {
         return SendAnswer::Refused(g, place, state);
     }
     let next = next_state(m, state);
@@ -147,76 +127,6 @@ fn flush_in(
     fill::fill_filler(x, flag);
     send_out(d, plan, marks, m, state.row as usize, car, store, x, out);
     SendAnswer::Sent(next)
-}
-
-// The row of a fresh store that begins at place `at`: the flush at phase j, from the subcarriers of the cells.
-fn fresh_row(d: Device, plan: &[u8], m: usize, j: usize, kc: &[u16], at: usize, store: &mut [u16])
-    requires { ⌜ Spotted d (now plan) m (now kc) × (j ≤ 4096) × (at + length (now kc) ≤ length (now store)) ⌝ }
-    ensures { λ _. ⌜ now (store .exit) ≡ sets (now (store .entry)) at (inputCells (frameOf d (planOf (now (plan .entry)))) j flush) ⌝ }
-{
-    let mut flag = [0u8; 4096];
-    cells::flags_at(d, plan, m, j, kc, &mut flag);
-    let end = at + kc.len();
-    fill::fill_filler(&mut store[at..end], &flag);
-}
-
-// The rows of a fresh store: row 0 is filler, row i the flush of m - i symbols back.
-fn fresh_rows(d: Device, plan: &[u8], m: usize, j: usize, kc: &[u16], store: &mut [u16])
-    requires { ⌜ Spotted d (now plan) m (now kc) × (j < phases) × (m * length (now kc) ≤ length (now store)) ⌝ }
-    ensures { λ _. ⌜ now (store .exit) ≡ freshStore (frameOf d (planOf (now (plan .entry)))) j (now (store .entry)) ⌝ }
-{
-    let n = kc.len();
-    let x = [FILLER; 4096];
-    delay::put_at(store, &x[..n], 0);
-    let mut i: usize = 1;
-    while i < m {
-        let back = m - i;
-        fresh_row(d, plan, m, (j + (PHASES - back)) % PHASES, kc, i * n, store);
-        i = i + 1;
-    }
-}
-
-// A fresh start under an accepted plan, with arrays as for an emit step.
-fn start_in(
-    d: Device,
-    plan: &[u8],
-    marks: &[u16; 4096],
-    phase: u32,
-    store: &mut [u16],
-    car: &mut [u16],
-    kc: &mut [u16],
-) -> StartAnswer
-    requires { ⌜ Ready d (now plan) (length (now kc)) (now marks) × (length (now car) ≡ 4096) ⌝ }
-    ensures { λ r. ⌜ starts r (now (store .exit)) ≡ startStep d (now (plan .entry)) phase (now (store .entry)) ⌝ }
-{
-    let j = phase as usize;
-    if PHASES <= j {
-        return StartAnswer::Refused(16, 0);
-    }
-    let m = plan::number_at(plan, 6);
-    if store.len() < m * kc.len() {
-        return StartAnswer::Refused(17, 0);
-    }
-    cells::spots(d, plan, marks, car, kc);
-    fresh_rows(d, plan, m, j, kc, store);
-    StartAnswer::Started(EmitterState { phase, row: 0 })
-}
-
-// A fresh emitter at a phase: row 0, and the lent store filled.
-pub fn fresh_emitter(plan: &[u8], phase: u32, store: &mut [u16]) -> StartAnswer
-    ensures { λ r. ⌜ starts r (now (store .exit)) ≡ startStep khz50 (now (plan .entry)) phase (now (store .entry)) ⌝ }
-{
-    let d = rules::khz50_device();
-    let mut marks = [0u16; 4096];
-    match judge::study(d, plan, &mut marks) {
-        Verdict::Refused(g, place) => StartAnswer::Refused(g, place),
-        Verdict::Accepted(n) => {
-            let ni = n as usize;
-            let mut car = [0u16; 4096];
-            let mut kc = [0u16; 4096];
-            start_in(d, plan, &marks, phase, store, &mut car, &mut kc[..ni])
-        }
-    }
 }
 
 // An emit step: the input goes into the current row as an input symbol, and one symbol on the line is sent.

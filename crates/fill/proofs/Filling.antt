@@ -44,11 +44,11 @@ unfolding count sum
 count-step t k = rw add-one refl
 
 -- ---- one flag
-zero-yes : (l : List ℕ) (p : ℕ) → getD l p 0 ≡ 0 → isZero l p ≡ true
+pub zero-yes : (l : List ℕ) (p : ℕ) → getD l p 0 ≡ 0 → isZero l p ≡ true
 unfolding isZero
 zero-yes l p e = eq-eqb (getD l p 0) 0 e
 
-zero-no : (l : List ℕ) (p : ℕ) → (getD l p 0 ≡ 0 → ⊥) → isZero l p ≡ false
+pub zero-no : (l : List ℕ) (p : ℕ) → (getD l p 0 ≡ 0 → ⊥) → isZero l p ≡ false
 unfolding isZero
 zero-no l p e = ne-eqb (getD l p 0) 0 e
 

@@ -1,16 +1,18 @@
--- The rows that are filled from the flags of a frame's placeholders are the frame's input symbols. Assumes nothing.
+-- The rows that are filled from the flags of a frame's placeholders are the frame's input symbols, and the data taken from one is the frame's
+-- data of it. Assumes nothing.
 use Prim.Native.Nat.{ℕ, _≤_, _<_}
 use mathlib.Core.Path.{_≡_, refl, sym, ap, _∙_}
 use mathlib.Core.Bool.{Bool, true, false, not}
 use mathlib.Core.List.{List}
 use native.Mathlib.Omega.{arith}
-use lib.ListN.{getD, replicate, getD-replicate}
-use Rattle.counting.specs.Search.{bit, pick, count, tabulate, isZero}
+use lib.ListN.{length, getD, replicate, getD-replicate}
+use Rattle.counting.specs.Search.{bit, pick, count, select, tabulate, isZero}
 use Rattle.counting.proofs.Bools.{by-test}
 use Rattle.counting.proofs.Laws.{count-ext, count-lt}
 use Rattle.counting.proofs.Lists.{tabulate-cong}
-use Rattle.rules.specs.Frame.{Frame, cells, held, isData, dataCount, dataList, inputCells, flush, symbol, placeholder, filler}
-use Rattle.fill.specs.Flags.{dataCell, fillerCell, Flagged}
+use Rattle.counting.proofs.Select.{select-ext}
+use Rattle.rules.specs.Frame.{Frame, cells, held, isData, dataCount, dataList, inputCells, dataOf, flush, symbol, placeholder, filler}
+use Rattle.fill.specs.Flags.{dataCell, fillerCell, takenData, Flagged}
 
 bit-isZero : (l : List ℕ) (p : ℕ) (b : Bool) → getD l p 0 ≡ bit b → isZero l p ≡ not b
 unfolding isZero
@@ -52,3 +54,15 @@ module _ (F : Frame) (j : ℕ) (flag : List ℕ) (hf : Flagged F j flag) where
   pub flushed : (row : List ℕ) (n : ℕ) → n ≡ cells F → row ≡ tabulate (fillerCell flag) n → row ≡ inputCells F j flush
   unfolding inputCells dataList
   flushed row n e er = er ∙ ap (tabulate (fillerCell flag)) e ∙ tabulate-cong _ _ (cells F) filler-at
+
+-- what `take_data` takes from an input symbol of N_I cells
+pub taken : (F : Frame) (j : ℕ) (flag x : List ℕ) → length x ≡ cells F → Flagged F j flag → takenData flag x ≡ dataOf F j x
+unfolding takenData dataOf
+taken F j flag x e hf =
+    ap (λ (n : ℕ). tabulate (λ c. getD x (select (isZero flag) n c) 0) (count (isZero flag) n)) e
+    ∙ ap (tabulate (λ c. getD x (select (isZero flag) (cells F) c) 0)) number
+    ∙ tabulate-cong _ _ (dataCount F j)
+    (λ c h. ap (λ (p : ℕ). getD x p 0) (select-ext (isZero flag) (isData F j) (cells F) c (free F j flag hf) (omega (arith, number))))
+  where
+    number : count (isZero flag) (cells F) ≡ dataCount F j
+    number = free-count F j flag hf (cells F) refl

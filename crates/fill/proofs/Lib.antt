@@ -1,3 +1,4 @@
 pub mod Filling
+pub mod Taking
 pub mod Inputs
 pub mod Over

@@ -2,8 +2,8 @@
 use Prim.Native.Nat.{ℕ, _<_}
 use mathlib.Core.Path.{_≡_}
 use mathlib.Core.List.{List}
-use lib.ListN.{getD}
-use Rattle.counting.specs.Search.{bit, pick, count, isZero}
+use lib.ListN.{length, getD}
+use Rattle.counting.specs.Search.{bit, pick, count, select, tabulate, isZero}
 use Rattle.rules.specs.Frame.{Frame, cells, held, placeholder, filler}
 
 -- cell p of the input symbol of the data ds
@@ -13,6 +13,10 @@ dataCell flag ds p = pick (isZero flag p) (getD ds (count (isZero flag) p) 0) pl
 -- cell p of the input symbol of a flush
 unfoldable pub fillerCell : List ℕ → ℕ → ℕ
 fillerCell flag p = pick (isZero flag p) filler placeholder
+
+-- the cells of the input symbol x whose flag is 0, in rising order
+unfoldable pub takenData : List ℕ → List ℕ → List ℕ
+takenData flag x = tabulate (λ c. getD x (select (isZero flag) (length x) c) 0) (count (isZero flag) (length x))
 
 -- the flags are those of the placeholders at phase j
 abbrev pub Flagged : Frame → ℕ → List ℕ → Type 0

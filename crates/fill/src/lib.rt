@@ -1,13 +1,15 @@
-// Input symbols from flags: data or filler in the cells whose flag is 0, placeholders in the others. Data is copied in blocks: a block
-// without a placeholder is copied without a look at its flags. The search for a number that is no data counts before it looks.
+// Input symbols from flags: data or filler in the cells whose flag is 0, placeholders in the others; and the data taken out again. Data is
+// copied in blocks: a block without a placeholder is copied without a look at its flags. The search for a number that is no data counts
+// before it looks.
 ghost use mathlib.Core.Path.{_≡_};
 ghost use Prim.Native.Nat.{ℕ, _+_, _≤_, _<_};
 ghost use lib.Dec.{ltb, leb};
 ghost use lib.ListN.{length, getD};
+ghost use lib.Seq.{sets};
 ghost use Rattle.counting.specs.Search.{bit, count, lowest, tabulate, isZero};
 ghost use Rattle.counting.specs.Answer.{placeOf};
 ghost use Rattle.rules.specs.Frame.{topData};
-ghost use Rattle.fill.specs.Flags.{dataCell, fillerCell};
+ghost use Rattle.fill.specs.Flags.{dataCell, fillerCell, takenData};
 use counting::Found;
 use counting::wide;
 
@@ -93,6 +95,34 @@ pub fn fill_filler(row: &mut [u16], flag: &[u8])
             row[p] = FILLER;
         }
         p = p + 1;
+    }
+}
+
+// The data cells of an input symbol go to the start of the buffer, in rising order.
+pub fn take_data(cells: &[u16], flag: &[u8], buffer: &mut [u16])
+    requires { ⌜ (length (now cells) ≤ 4096) × (length (now cells) ≤ length (now flag)) × (count (isZero (now flag)) (length (now cells)) ≤ length (now buffer)) ⌝ }
+    ensures { λ _. ⌜ now (buffer .exit) ≡ sets (now (buffer .entry)) 0 (takenData (now (flag .entry)) (now (cells .entry))) ⌝ }
+{
+    let n = cells.len();
+    let mut p: usize = 0;
+    let mut taken: usize = 0;
+    while p < n {
+        let end = block_end(p, n);
+        if flag_sum(flag, p, end) == 0 {
+            while p < end {
+                buffer[taken] = cells[p];
+                taken = taken + 1;
+                p = p + 1;
+            }
+        } else {
+            while p < end {
+                if flag[p] == 0 {
+                    buffer[taken] = cells[p];
+                    taken = taken + 1;
+                }
+                p = p + 1;
+            }
+        }
     }
 }
 

@@ -7,10 +7,10 @@ use lib.ListN.{length, getD}
 use Rattle.counting.specs.Search.{pick, count, select, ofRank}
 use Rattle.counting.proofs.Bools.{conflict}
 use Rattle.counting.proofs.Laws.{count-lt}
-use Rattle.counting.proofs.Lists.{length-tabulate, getD-tabulate}
+use Rattle.counting.proofs.Lists.{length-tabulate, getD-tabulate, is-tabulate}
 use Rattle.counting.proofs.Select.{Selected, selected, select-count}
 use Rattle.counting.proofs.Ranks.{InjBelow, rank-below, ofRank-below, rank-ofRank, ofRank-rank}
-use Rattle.rules.specs.Frame.{Frame, cells, cellRank, carrier, spot, holder, held, isData, dataCount, Given, dataList, inputCells, lineSymbol, placeholder}
+use Rattle.rules.specs.Frame.{Frame, cells, cellRank, carrier, spot, holder, held, isData, dataCount, Given, dataList, inputCells, dataOf, lineSymbol, lineCells, placeholder}
 
 -- what the laws ask of a frame
 pub record Sound (F : Frame) : Type 0 where
@@ -56,17 +56,41 @@ module _ (F : Frame) where
       let r = data-cell j c h in
       input-data j g (select (isData F j) (cells F) c) (r .below) (data-cell-held j c h) ∙ ap (λ (i : ℕ). getD (dataList F j g) i 0) (r .before)
 
+  -- as many numbers come out as there are data cells
+  pub length-data : (j : ℕ) (x : List ℕ) → length (dataOf F j x) ≡ dataCount F j
+  unfolding dataOf
+  length-data j x = length-tabulate _ (dataCount F j)
+
+  -- what was filled in comes out
+  pub data-back : (j : ℕ) (g : Given) (x : List ℕ) → length (dataList F j g) ≡ dataCount F j → ((p : ℕ) → p < cells F → getD x p 0 ≡ getD (inputCells F j g) p 0)
+      → dataOf F j x ≡ dataList F j g
+  unfolding dataOf
+  data-back j g x e h =
+      sym
+      (is-tabulate (dataList F j g) (dataCount F j) (λ c. getD x (select (isData F j) (cells F) c) 0) e
+      (λ c l. sym (h (select (isData F j) (cells F) c) ((data-cell j c l) .below) ∙ data-cell-at j c g l)))
+
+  -- the cells of a symbol on the line, in cell order
+  pub length-line-cells : (y : List ℕ) → length (lineCells F y) ≡ cells F
+  unfolding lineCells
+  length-line-cells y = length-tabulate _ (cells F)
+
+  pub line-cell : (y : List ℕ) (p : ℕ) → p < cells F → getD (lineCells F y) p 0 ≡ getD y (spot F p) 0
+  unfolding lineCells
+  line-cell y p h = getD-tabulate _ (cells F) 0 p h
+
+  -- the subcarrier of a cell is one of the frame's, with the cell's rank
+  spot-selected : (p : ℕ) → p < cells F → Selected (F .ranked) (F .width) (cellRank F p) (spot F p)
+  unfolding spot cellRank carrier cells
+  spot-selected p h = selected (F .ranked) (F .width) (cellRank F p) (rank-below (F .key) (cells F) p h)
+
+  pub spot-below : (p : ℕ) → p < cells F → spot F p < F .width
+  spot-below p h = (spot-selected p h) .below
+
+  pub spot-ranked : (p : ℕ) → p < cells F → F .ranked (spot F p) ≡ true
+  spot-ranked p h = (spot-selected p h) .passes
+
   module _ (inj : InjBelow (cells F) (F .key)) where
-    spot-selected : (p : ℕ) → p < cells F → Selected (F .ranked) (F .width) (cellRank F p) (spot F p)
-    unfolding spot cellRank carrier cells
-    spot-selected p h = selected (F .ranked) (F .width) (cellRank F p) (rank-below (F .key) (cells F) p h)
-
-    pub spot-below : (p : ℕ) → p < cells F → spot F p < F .width
-    spot-below p h = (spot-selected p h) .below
-
-    pub spot-ranked : (p : ℕ) → p < cells F → F .ranked (spot F p) ≡ true
-    spot-ranked p h = (spot-selected p h) .passes
-
     pub holder-spot : (p : ℕ) → p < cells F → holder F (spot F p) ≡ p
     unfolding holder cellRank
     holder-spot p h = ap (ofRank (F .key) (cells F)) ((spot-selected p h) .before) ∙ ofRank-rank (F .key) (cells F) inj p h

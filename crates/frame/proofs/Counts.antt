@@ -19,7 +19,7 @@ module _ (F : Frame) (ok : Sound F)
   unfolding held count
   held-once p h =
       sum-turn (F .phases) (delay F p) (λ j. bit (F .pattern j (spot F p)))
-      ∙ once (spot F p) (spot-below F (ok .key-inj) p h) (spot-ranked F (ok .key-inj) p h)
+      ∙ once (spot F p) (spot-below F p h) (spot-ranked F p h)
 
   all-input : sum (dataCount F) (F .phases) ≡ (F .phases - 1) * cells F
   unfolding dataCount count isData

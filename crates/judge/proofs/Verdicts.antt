@@ -16,7 +16,7 @@ use Rattle.marks.proofs.Marks.{marks-are}
 use Rattle.judge.specs.Studied.{Studied, StudiedIf, MarksIf}
 use Rattle.grounds.specs.Order.{ground15, grounds13to15, grounds11to15, grounds9to15}
 
-else-assoc : (a b c : Finding) → ((a else b) else c) ≡ (a else (b else c))
+pub else-assoc : (a b c : Finding) → ((a else b) else c) ≡ (a else (b else c))
 else-assoc Fine b c = refl
 else-assoc (Ground g k) b c = refl
 

@@ -6,3 +6,4 @@ pub mod Placing
 pub mod Clash
 pub mod Testing
 pub mod Marks
+pub mod Fitting

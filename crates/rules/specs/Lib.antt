@@ -7,6 +7,7 @@ pub mod Answers
 pub mod Frame
 pub mod Store
 pub mod Steps
+pub mod Receive
 pub mod Computes
 pub mod Cases
 pub mod Fits

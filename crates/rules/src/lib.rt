@@ -86,6 +86,27 @@ pub enum SendAnswer {
     Refused(u32, u32, EmitterState),
 }
 
+// The state of a receiver: phase and row of its next step, and how many symbols it has heard, up to M - 1.
+pub struct ReceiverState {
+    pub phase: u32,
+    pub row: u32,
+    pub heard: u32,
+}
+
+// The answer of a receiver's fresh start: the state, or refused with number and place.
+pub enum ListenAnswer {
+    Started(ReceiverState),
+    Refused(u32, u32),
+}
+
+// The answer of a receive step: warming with the next state, data with the next state and the count, or refused with number, place
+// and the state as it was given.
+pub enum ReceiveAnswer {
+    Warming(ReceiverState),
+    Data(ReceiverState, u32),
+    Refused(u32, u32, ReceiverState),
+}
+
 // The 50 kHz device.
 pub fn khz50_device() -> Device
     ensures { λ r. ⌜ r ≡ khz50 ⌝ }

@@ -19,7 +19,7 @@ use Rattle.frame.specs.Counted.{phaseOf}
 use Rattle.frame.proofs.Cells.{Sound, length-input}
 use Rattle.delay.specs.Ring.{ringSent}
 use Rattle.delay.proofs.Ring.{late, early, length-ringSent, length-cells}
-use Rattle.runs.specs.Run.{input, sent}
+use Rattle.runs.specs.Run.{acceptedSteps, input, sent}
 use Rattle.runs.proofs.Steps.{by-finding, fine-given, next, input-sent, input-ground, sent-symbol, sent-ground, FreshIn, freshEmitter}
 
 -- ---- a run is that of its accepted steps
@@ -56,7 +56,7 @@ ringOf : Frame → Emitter → List Given → List (List ℕ)
 ringOf F e gs = ringSent (F .depth) (cells F) (delay F) (e .state .row) (e .store) (inputs F (e .state .phase) gs)
 
 sent-ring : (F : Frame) (e : Emitter) (steps : List Send) → sent (frameStep F) e steps ≡ map (lineSymbol F) (ringOf F e (input (frameStep F) e steps))
-unfolding sent input ringOf ringSent inputs sentSymbol sentStore next nextState
+unfolding sent input acceptedSteps ringOf ringSent inputs sentSymbol sentStore next nextState
 sent-ring F e [] = refl
 sent-ring F e (a ∷ rest) =
     by-finding (sendGrounds F e a)
@@ -83,7 +83,7 @@ fine-cons F j g gs hj h hs zero l = ap (λ (x : ℕ). givenGrounds F x g) (phase
 fine-cons F j g gs hj h hs (suc i) l = ap (λ (x : ℕ). givenGrounds F x (getD gs i flush)) (sym (phase-next F j i)) ∙ hs i (le-of-suc-le-suc l)
 
 input-all : (F : Frame) (e : Emitter) (steps : List Send) → e .state .phase < F .phases → AllFine F (e .state .phase) (input (frameStep F) e steps)
-unfolding input next nextState
+unfolding input acceptedSteps next nextState
 input-all F e [] hj = λ i h. absurd (not-suc-le-zero h)
 input-all F e (a ∷ rest) hj =
     by-finding (sendGrounds F e a)

@@ -2,52 +2,30 @@
 use Prim.Native.Nat.{ℕ, _+_, _-_, _%_, _<_}
 use mathlib.Core.Path.{_≡_, refl, sym, ap, _∙_}
 use mathlib.Core.Logic.{by-cases}
-use mathlib.Core.Bool.{Bool, true, false, not, _&&_, _||_}
+use mathlib.Core.Bool.{true, false, not, _||_}
 use mathlib.Core.List.{List, []}
 use native.Mathlib.Nat.{mod-add-mod, add-mod-right}
 use native.Mathlib.Decide.{decLt}
 use native.Mathlib.Omega.{arith}
 use lib.Dec.{leb, eqb}
 use lib.ListN.{length, getD, getD-replicate}
-use borrow.Author.Tests.{le-leb, lt-ltb, eq-eqb}
-use Rattle.counting.specs.Search.{pick, count}
+use borrow.Author.Tests.{le-leb, eq-eqb}
+use Rattle.counting.specs.Search.{count}
 use Rattle.counting.proofs.Bools.{by-test}
 use Rattle.counting.proofs.Laws.{count-lt}
 use Rattle.rules.specs.declared.Device.{Device}
 use Rattle.rules.specs.declared.Finding.the-variants.{Fine}
 use Rattle.rules.specs.Plan.{Plan}
-use Rattle.rules.specs.Bands.{excluded, active}
-use Rattle.rules.specs.Roles.{inPlc, continuous, scatteredAt, role, ranked, mark}
-use Rattle.rules.specs.Frame.{Frame, frameOf, cells, spot, holder, delay, phaseBack, held, isData, dataCount, Given, flush, symbol, dataList, inputCells, lineSymbol, placeholder, filler, topData}
+use Rattle.rules.specs.Roles.{role, ranked, mark}
+use Rattle.rules.specs.Frame.{Frame, frameOf, cells, spot, holder, delay, phaseBack, held, isData, dataCount, Given, flush, symbol, dataList, inputCells, lineSymbol, filler, topData, fitsRole}
 use Rattle.rules.specs.Steps.{Emitter, Send, givenGrounds, frameStep}
-use Rattle.marks.specs.Stages.{firstMark}
-use Rattle.marks.proofs.Testing.{firstRole, mark-is, role-is}
+use Rattle.marks.proofs.Fitting.{cellFits, fits-role}
 use Rattle.frame.specs.Counted.{phaseOf}
 use Rattle.frame.proofs.Cells.{Sound, input-data, input-held, holder-below, spot-holder, line-ranked, line-unranked}
 use Rattle.runs.specs.Run.{input, sent}
-use Rattle.runs.specs.Claims.{fitsRole}
 use Rattle.runs.proofs.Steps.{given-length, given-data, FreshIn}
 use Rattle.runs.proofs.Emit.{AllFine, givenBefore, closedCells, given-late, given-early, delay-below, length-sent, input-fine}
 use Rattle.runs.proofs.Places.{closed-at, sent-at}
-
--- what may stand on subcarrier k of a symbol at phase j
-cellFits : Frame → ℕ → ℕ → ℕ → Bool
-cellFits F j k x = pick (F .ranked k) (pick (F .pattern j k) (eqb x placeholder) (leb x topData || eqb x filler)) (eqb x (F .mark k))
-
--- it is what the role asks for
-fits-role : (d : Device) (p : Plan) (j k x : ℕ) → k < d .subcarriers → cellFits (frameOf d p) j k x ≡ fitsRole (role d p j k) x
-unfolding cellFits frameOf ranked active
-fits-role d p j k x l =
-    (λ i. pick (((lt-ltb k (d .subcarriers) l i && not (excluded p k)) && not (inPlc d p k)) && not (continuous d p k)) (pick (scatteredAt d p j k) (eqb x placeholder) (leb x topData || eqb x filler)) (eqb x (mark-is d p k i)))
-    ∙ go (excluded p k) (inPlc d p k) (continuous d p k) (scatteredAt d p j k)
-    ∙ ap (λ r. fitsRole r x) (role-is d p j k _ _ _ _ refl refl refl refl)
-  where
-    go : (a b c e : Bool) → pick (((true && not a) && not b) && not c) (pick e (eqb x placeholder) (leb x topData || eqb x filler)) (eqb x (firstMark a b c)) ≡ fitsRole (firstRole a b c e) x
-    go true b c e = refl
-    go false true c e = refl
-    go false false true e = refl
-    go false false false true = refl
-    go false false false false = refl
 
 module _ (F : Frame) (ok : Sound F) (j : ℕ) (gs : List Given) where
   -- what was given at each number, flushes before the start, is refused by no ground at its phase

@@ -22,7 +22,7 @@ use Rattle.frame.specs.Counted.{phaseOf}
 use Rattle.frame.proofs.Cells.{Sound, data-cell, data-cell-held, data-cell-at, spot-below, spot-ranked, spot-inj, line-spot}
 use Rattle.marks.proofs.Testing.{role-is}
 use Rattle.runs.specs.Run.{input, sent}
-use Rattle.runs.specs.Claims.{dataCell, sentNumber, Placed}
+use Rattle.runs.specs.Demand3.{dataCell, sentNumber, Placed}
 use Rattle.runs.proofs.Steps.{given-length, FreshIn}
 use Rattle.runs.proofs.Emit.{givenBefore, closedCells, closedSent, given-late, delay-below, length-sent, sent-closed, input-fine}
 
@@ -120,9 +120,9 @@ placed d p ok j e fresh steps =
       own-place = λ t t′ q q′ h h′ same at.
           let qq : q ≡ q′ = spot-inj F (ok .key-inj) q q′ h h′ at in
           (omega (arith, ap (delay F) qq), qq);
-      inside = λ t c h. spot-below F (ok .key-inj) (dataCell F j t c) (cell-below F j t c h);
+      inside = λ t c h. spot-below F (dataCell F j t c) (cell-below F j t c h);
       role-data = λ t c h.
           data-role d p (phaseOf F j (sentNumber F t (dataCell F j t c))) (spot F (dataCell F j t c))
-          (spot-ranked F (ok .key-inj) (dataCell F j t c) (cell-below F j t c h)) (place-free F j t c h);
+          (spot-ranked F (dataCell F j t c) (cell-below F j t c h)) (place-free F j t c h);
       stands = number-stands F ok j e fresh steps;
     }

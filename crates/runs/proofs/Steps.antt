@@ -16,13 +16,13 @@ use Rattle.rules.specs.declared.Finding.the-variants.{Fine, Ground}
 use Rattle.rules.specs.declared.StartAnswer.{StartAnswer}
 use Rattle.rules.specs.declared.StartAnswer.the-variants as a-start
 use Rattle.rules.specs.Plan.{planOf}
-use Rattle.rules.specs.Grounds.{_else_, ground?, grounds1to15}
+use Rattle.rules.specs.Grounds.{ground?, grounds1to15}
 use Rattle.rules.specs.Frame.{Frame, frameOf, cells, dataCount, Given, flush, symbol, dataList, filler, topData}
 use Rattle.rules.specs.Store.{freshStore}
-use Rattle.rules.specs.Steps.{Emitter, Send, Sending, Starting, starts, refused, ground16, shortStore, stateGround16, ground17, givenGrounds, sendGrounds, nextState, sentStore, sentSymbol, accepted, frameStep, frameStart, sendStep, startStep}
+use Rattle.rules.specs.Steps.{Emitter, Send, Sending, Starting, starts, refused, ground16, shortStore, stateGround16, ground17, givenGrounds, sendGrounds, nextState, sentStore, sentSymbol, accepted, frameStep, startGrounds, frameStart, sendStep, startStep}
 use Rattle.plan.proofs.RecordLaws.{not-fine, both-fine}
 use Rattle.facts.proofs.Accepted.{when-fine}
-use Rattle.runs.specs.Run.{isSent, stateOf, after, input, sent, Fresh}
+use Rattle.runs.specs.Run.{acceptedSteps, isSent, stateOf, input, sent, Fresh}
 
 -- ---- findings
 
@@ -66,7 +66,7 @@ next F e g = record { state = nextState F (e .state); store = sentStore F e g }
 module _ (F : Frame) (e : Emitter) (a : Send) where
   pub fine-given : sendGrounds F e a ≡ Fine → givenGrounds F (e .state .phase) (a .given) ≡ Fine
   unfolding sendGrounds
-  fine-given h = both-fine (ground17 F (e .store) (a .room)) _ (both-fine (stateGround16 F (e .state)) _ h .1) .1
+  fine-given h = both-fine (ground17 F (e .store) (a .room)) _ (both-fine (stateGround16 F (e .state .phase) (e .state .row)) _ h .1) .1
 
   pub step-fine : sendGrounds F e a ≡ Fine → frameStep F e a ≡ accepted F e (a .given)
   unfolding frameStep
@@ -98,19 +98,19 @@ module _ (F : Frame) (e : Emitter) (a : Send) where
 
   module _ (rest : List Send) where
     pub input-sent : sendGrounds F e a ≡ Fine → input (frameStep F) e (a ∷ rest) ≡ a .given ∷ input (frameStep F) (next F e (a .given)) rest
-    unfolding input after accepted next
+    unfolding input acceptedSteps accepted next
     input-sent h = rw (step-fine h) refl
 
     pub input-ground : (n place : ℕ) → sendGrounds F e a ≡ Ground n place → input (frameStep F) e (a ∷ rest) ≡ input (frameStep F) e rest
-    unfolding input after
+    unfolding input acceptedSteps
     input-ground n place h = rw (step-ground n place h) refl
 
     pub sent-symbol : sendGrounds F e a ≡ Fine → sent (frameStep F) e (a ∷ rest) ≡ sentSymbol F e (a .given) ∷ sent (frameStep F) (next F e (a .given)) rest
-    unfolding sent after accepted next
+    unfolding sent acceptedSteps accepted next
     sent-symbol h = rw (step-fine h) refl
 
     pub sent-ground : (n place : ℕ) → sendGrounds F e a ≡ Ground n place → sent (frameStep F) e (a ∷ rest) ≡ sent (frameStep F) e rest
-    unfolding sent after
+    unfolding sent acceptedSteps
     sent-ground n place h = rw (step-ground n place h) refl
 
 -- ---- a fresh start
@@ -126,37 +126,37 @@ pub record FreshIn (F : Frame) (j : ℕ) (e : Emitter) : Type 0 where
   pub fits : F .depth * cells F ≤ length lent
   pub is-fresh : e ≡ freshEmitter F j lent
 
-phaseIn : StartAnswer → ℕ
-phaseIn (a-start.Started e) = e .phase
-phaseIn (a-start.Refused n place) = 0
+-- what no ground of a fresh start leaves
+pub record Startable (F : Frame) (j : ℕ) (lent : List ℕ) : Type 0 where
+  pub phase-in : j < F .phases
+  pub fits : F .depth * cells F ≤ length lent
 
-rowIn : StartAnswer → ℕ
-rowIn (a-start.Started e) = e .row
-rowIn (a-start.Refused n place) = 0
+pub startable : (F : Frame) (j : ℕ) (lent : List ℕ) → startGrounds F j lent ≡ Fine → Startable F j lent
+unfolding startGrounds ground16 shortStore
+startable F j lent h =
+    let long : Finding = ground? 17 (when (shortStore F lent) 0) in
+    record {
+      phase-in = leb-false _ _ (when-fine 16 0 _ (both-fine _ long h .0));
+      fits = ltb-false _ _ (when-fine 17 0 _ (both-fine (ground16 F j) long h .1));
+    }
+
+-- the emitter that an answer and a store make, u where the answer refuses
+emitterIn : Emitter → Starting → Emitter
+emitterIn u x = elim (x .answer) [ a-start.Started e ↦ record { state = e; store = x .store } | a-start.Refused n place ↦ u ]
 
 isStarted : StartAnswer → Bool
 isStarted (a-start.Started e) = true
 isStarted (a-start.Refused n place) = false
 
 started : (F : Frame) (j : ℕ) (lent : List ℕ) (e : Emitter) → frameStart F j lent ≡ starts (a-start.Started (e .state)) (e .store) → FreshIn F j e
-unfolding frameStart ground16 shortStore phaseIn rowIn isStarted freshEmitter
+unfolding frameStart emitterIn isStarted freshEmitter
 started F j lent e s =
-    let store : List ℕ = freshStore F j lent in
     let leaves : Finding → Starting =
-    λ f. elim f [ Fine ↦ starts (a-start.Started (record { phase = j; row = 0 })) store | Ground n place ↦ starts (a-start.Refused n place) lent ] in
-    let long : Finding = ground? 17 (when (shortStore F lent) 0) in
-    by-finding (ground16 F j else long)
+    λ f. elim f [ Fine ↦ starts (a-start.Started (record { phase = j; row = 0 })) (freshStore F j lent) | Ground n place ↦ starts (a-start.Refused n place) lent ] in
+    by-finding (startGrounds F j lent)
     (λ h.
-    let r : starts (a-start.Started (record { phase = j; row = 0 })) store ≡ starts (a-start.Started (e .state)) (e .store) = sym (ap leaves h) ∙ s in
-    record {
-      lent = lent;
-      phase-in = leb-false _ _ (when-fine 16 0 _ (both-fine _ long h .0));
-      fits = ltb-false _ _ (when-fine 17 0 _ (both-fine (ground16 F j) long h .1));
-      is-fresh = λ i. record {
-        state = record { phase = sym (ap (λ (x : Starting). phaseIn (x .answer)) r) i; row = sym (ap (λ (x : Starting). rowIn (x .answer)) r) i };
-        store = sym (ap (λ (x : Starting). x .store) r) i;
-      };
-    })
+    let t : Startable F j lent = startable F j lent h in
+    record { lent = lent; phase-in = t .phase-in; fits = t .fits; is-fresh = sym (ap (emitterIn e) (sym (ap leaves h) ∙ s)) })
     (λ n place h. absurd (false≢true (ap (λ (x : Starting). isStarted (x .answer)) (sym (ap leaves h) ∙ s))))
 
 -- ---- a plan's bytes that no ground of 1 to 15 refuses

@@ -15,7 +15,7 @@ use Rattle.rules.specs.Steps.{Emitter, Send, givenGrounds, frameStep}
 use Rattle.frame.specs.Counted.{phaseOf}
 use Rattle.frame.proofs.Cells.{Sound, data-cell, data-cell-at}
 use Rattle.runs.specs.Run.{input, sent}
-use Rattle.runs.specs.Claims.{sentNumber, Flushed}
+use Rattle.runs.specs.Demand3.{sentNumber, Flushed}
 use Rattle.runs.proofs.Steps.{given-length, given-data, list-length, FreshIn}
 use Rattle.runs.proofs.Emit.{closedSent, delay-below, length-sent, sent-closed, input-fine}
 use Rattle.runs.proofs.Places.{cell-stands}

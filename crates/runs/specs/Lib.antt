@@ -1,2 +1,3 @@
 pub mod Run
+pub mod Demand3
 pub mod Claims

@@ -6,7 +6,7 @@ use native.Mathlib.Nat.{mod-lt}
 use native.Mathlib.Omega.{arith}
 use lib.ListN.{length, take, drop}
 use Rattle.counting.proofs.Lists.{length-tabulate}
-use Rattle.delay.proofs.Stride.{Lines, lines-next, lines-all, part-at, part-length, row-here, row-off, back-fits, lifted, lift-first, lift-new}
+use Rattle.delay.proofs.Stride.{Lines, lines-next, lines-all, part-at, part-length, row-here, row-off, ring-fits, lifted, lift-first, lift-new}
 use Rattle.delay.proofs.lift.Statement.{statement}
 use Rattle.delay.proofs.lift.Tie as tie
 
@@ -33,7 +33,7 @@ fits : (c : tie.After-row-before Inv-loop μ-loop) →
     ≤ length (c .before .before .before .before .before .args .store .now)
 fits c =
     let g = c .before .before .before .before .before in
-    back-fits (g .args .m) (length (g .args .cells .now)) (c .before .before .loop .r) (c .row-before .result) (length (g .args .store .now)) (omega arith) (c .row-before .ensures) (g .pre .3)
+    ring-fits (g .args .m) (length (g .args .cells .now)) (c .before .before .loop .r + (g .args .m - 1)) (c .row-before .result) (length (g .args .store .now)) (omega arith) (c .row-before .ensures) (g .pre .3)
 
 mul-from : tie.Need-mul-from Inv-loop μ-loop
 mul-from c = omega (arith, fits c)
@@ -64,7 +64,7 @@ line-requires c κs =
       g .pre .1,
       omega arith,
       part-length (a .store .now) (x * n) (x * n + n) n refl
-          (back-fits (a .m) n (l .r) x (length (a .store .now)) (omega arith) (c .before .before .row-before .ensures) (g .pre .3)) ∙ sym (l .inv .3),
+          (ring-fits (a .m) n (l .r + (a .m - 1)) x (length (a .store .now)) (omega arith) (c .before .before .row-before .ensures) (g .pre .3)) ∙ sym (l .inv .3),
     )
 
 add-d : tie.Need-add-d Inv-loop μ-loop

@@ -13,8 +13,8 @@ use Rattle.rules.specs.Steps.{emitStep}
 use Rattle.rules.proofs.Sizes.{khz50-fits}
 use Rattle.judge.proofs.Verdicts.{first-ground}
 use Rattle.cells.proofs.Parts.{part-size, part-zero}
-use Rattle.emitter.specs.Ready.{Ready}
-use Rattle.emitter.proofs.Accepted.{cells-low, khz50-ready}
+use Rattle.steps.specs.Ready.{Ready}
+use Rattle.steps.proofs.Accepted.{cells-low, khz50-ready}
 use Rattle.emitter.proofs.Answers.{at, giving, step-refused}
 use Rattle.emitter.proofs.emit.Statement.{statement}
 use Rattle.emitter.proofs.emit.Tie as tie

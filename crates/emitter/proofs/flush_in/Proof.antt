@@ -14,8 +14,9 @@ use Rattle.rules.specs.Store.{putRow, delayed, nextRow}
 use Rattle.rules.specs.Steps.{stateGround16, ground17, flushStep, nextState}
 use Rattle.fill.specs.Flags.{Flagged}
 use Rattle.fill.proofs.Inputs.{flushed}
-use Rattle.emitter.proofs.Accepted.{cells-low}
-use Rattle.emitter.proofs.Answers.{at, giving, Lent, lent, refused-early, good-flush, sent, step-left}
+use Rattle.steps.proofs.Accepted.{cells-low}
+use Rattle.steps.proofs.Lent.{Lent, lent}
+use Rattle.emitter.proofs.Answers.{at, giving, refused-early, good-flush, sent, step-left}
 use Rattle.emitter.proofs.flush_in.Statement.{statement}
 use Rattle.emitter.proofs.flush_in.Tie as tie
 
@@ -30,17 +31,17 @@ deep c = c .number-at .ensures .0
 
 -- neither ground 16 nor 17 holds
 abbrev Passed : tie.Start → Type 0
-Passed g = Fine ≡ (stateGround16 (frame g) (g .args .state) else ground17 (frame g) (g .args .store .now) (g .args .out .now))
+Passed g = Fine ≡ (stateGround16 (frame g) (g .args .state .phase) (g .args .state .row) else ground17 (frame g) (g .args .store .now) (g .args .out .now))
 
 passed : (c : tie.After-enum-told) → Passed (c .before .before .before .before .before .before .before .before .before .before .before .before .before)
 passed c = sym (c .enum-told .given .1) ∙ c .before .before .lent-grounds .ensures
 
 -- what that leaves
 abbrev Granted : tie.Start → Type 0
-Granted g = Lent (frame g) (g .args .state) (g .args .store .now) (g .args .out .now)
+Granted g = Lent (frame g) (g .args .state .phase) (g .args .state .row) (g .args .store .now) (g .args .out .now)
 
 granted : (c : tie.After-enum-told) → Granted (c .before .before .before .before .before .before .before .before .before .before .before .before .before)
-granted c = let g = c .before .before .before .before .before .before .before .before .before .before .before .before .before in lent (frame g) (g .args .state) (g .args .store .now) (g .args .out .now) (passed c)
+granted c = let g = c .before .before .before .before .before .before .before .before .before .before .before .before .before in lent (frame g) (g .args .state .phase) (g .args .state .row) (g .args .store .now) (g .args .out .now) (passed c)
 
 -- the flags are those of the frame
 abbrev Flags : tie.Start → List ℕ → Type 0

@@ -4,7 +4,7 @@ use mathlib.Core.Path.{ap, _∙_}
 use native.Mathlib.Omega.{arith}
 use Rattle.rules.specs.Plan.{planOf}
 use Rattle.rules.specs.Frame.{frameOf, lineSymbol}
-use Rattle.emitter.proofs.Accepted.{cells-low}
+use Rattle.steps.proofs.Accepted.{cells-low}
 use Rattle.emitter.proofs.send_out.Statement.{statement}
 use Rattle.emitter.proofs.send_out.Tie as tie
 

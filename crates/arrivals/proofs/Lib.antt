@@ -1,0 +1,2 @@
+pub mod Expecting
+pub mod Ordered

@@ -1,0 +1,163 @@
+-- A receive step under an accepted plan: it is accepted exactly if no ground refuses it, and else changes nothing; and what a fresh start leaves. Assumes nothing.
+use Prim.Native.Nat.{ℕ, _*_, _≤_, _<_}
+use mathlib.Core.Path.{_≡_, refl, sym, ap, _∙_}
+use mathlib.Core.Bool.{Bool, true, false, not, _&&_, _||_, false≢true}
+use mathlib.Core.List.{List, _∷_}
+use native.Mathlib.Omega.{arith}
+use lib.Dec.{ltb, eqb}
+use lib.ListN.{length, take, length-map}
+use lib.Seq.{sets, length-sets, ext-getD, length-take-le, getD-take}
+use borrow.Author.Tests.{ltb-false}
+use Rattle.counting.specs.Search.{pick}
+use Rattle.counting.proofs.Bools.{by-test}
+use Rattle.counting.proofs.Lists.{getD-sets-0}
+use Rattle.rules.specs.declared.Device.{Device}
+use Rattle.rules.specs.declared.Finding.{Finding}
+use Rattle.rules.specs.declared.Finding.the-variants.{Fine, Ground}
+use Rattle.rules.specs.declared.ReceiverState.{ReceiverState}
+use Rattle.rules.specs.declared.ListenAnswer.{ListenAnswer}
+use Rattle.rules.specs.declared.ListenAnswer.the-variants as a-start
+use Rattle.rules.specs.Plan.{planOf}
+use Rattle.rules.specs.Grounds.{grounds1to15}
+use Rattle.rules.specs.Frame.{Frame, frameOf, cells}
+use Rattle.rules.specs.Store.{fillerStore}
+use Rattle.rules.specs.Steps.{shortStore, startGrounds}
+use Rattle.rules.specs.Receive as receive
+use Rattle.rules.specs.Receive.{Receiver, Arrival, Receiving, Listening, listens, turnedAway, outCount, shortBuffer, receiverGround16, receiverGround17, ground20, receiveGrounds, heardState, heardStore, received, frameReceive, frameListen, hearStep, listenStep}
+use Rattle.plan.proofs.RecordLaws.{both-fine}
+use Rattle.facts.proofs.Accepted.{when-fine}
+use Rattle.frame.proofs.Cells.{length-data}
+use Rattle.runs.specs.Run.{acceptedSteps, afterSteps, isReceived, Told, warming, handed, toldBy, receivings, heard, told, receiverAfter, FreshReceiver}
+use Rattle.runs.proofs.Steps.{by-finding, Startable, startable}
+
+-- a test that fails has no part that passes
+or-false : (a b : Bool) → (a || b) ≡ false → (a ≡ false) × (b ≡ false)
+or-false true b e = absurd (false≢true (sym e))
+or-false false b e = (refl, e)
+
+-- what was stored from the start on is what stands there
+take-sets : (b xs : List ℕ) (n : ℕ) → length xs ≡ n → n ≤ length b → take n (sets b 0 xs) ≡ xs
+take-sets b xs n e h =
+    let size : length (take n (sets b 0 xs)) ≡ n = length-take-le n (sets b 0 xs) (rw length-sets h) in
+    ext-getD 0 (take n (sets b 0 xs)) xs (size ∙ sym e)
+    (λ i l. getD-take n (sets b 0 xs) i 0 (rw size at l) ∙ getD-sets-0 b xs 0 i (omega arith) (omega arith))
+
+-- ---- one step
+
+-- the receiver after an accepted step that was given the symbol y
+unfoldable pub nextHeard : Frame → Receiver → List ℕ → Receiver
+nextHeard F v y = record { state = heardState F (v .state); store = heardStore F v y }
+
+-- what an accepted step tells that hands out xs unless it is warming
+unfoldable pub tells : Frame → ReceiverState → List ℕ → Told
+tells F v xs = pick (receive.warming F v) warming (handed (outCount F v) xs)
+
+module _ (F : Frame) (v : Receiver) (a : Arrival) where
+  after : Finding → Receiving
+  after f = elim f [ Fine ↦ received F v a | Ground n place ↦ turnedAway v a n place ]
+
+  step-fine : receiveGrounds F v a ≡ Fine → frameReceive F v a ≡ received F v a
+  unfolding frameReceive after
+  step-fine h = ap after h
+
+  step-ground : (n place : ℕ) → receiveGrounds F v a ≡ Ground n place → frameReceive F v a ≡ turnedAway v a n place
+  unfolding frameReceive after
+  step-ground n place h = ap after h
+
+  -- a step that no ground refuses is accepted
+  pub fine-received : receiveGrounds F v a ≡ Fine → isReceived (frameReceive F v a .answer) ≡ true
+  unfolding received
+  fine-received h =
+      ap (λ (r : Receiving). isReceived (r .answer)) (step-fine h)
+      ∙ by-test (receive.warming F (v .state)) (λ q. rw q refl) (λ q. rw q refl)
+
+  -- unless it is warming, its data buffer is long enough
+  buffer-fits : receiveGrounds F v a ≡ Fine → receive.warming F (v .state) ≡ false → outCount F (v .state) ≤ length (a .buffer)
+  unfolding receiveGrounds receiverGround17 shortBuffer
+  buffer-fits h q =
+      let rest = both-fine (receiverGround16 F (v .state)) _ h .1 in
+      let short = when-fine 17 0 _ (both-fine _ (ground20 F (v .state .phase) (a .symbol)) rest .0) in
+      ltb-false _ _ (sym (ap (λ (b : Bool). not b && ltb (length (a .buffer)) (outCount F (v .state))) q) ∙ or-false (shortStore F (v .store) || not (eqb (length (a .symbol)) (F .width))) _ short .1)
+
+  tells-handed : receiveGrounds F v a ≡ Fine → toldBy (received F v a .answer) (received F v a .buffer) ≡ tells F (v .state) (receive.handed F v (a .symbol))
+  unfolding received tells receive.handed
+  tells-handed h =
+      by-test (receive.warming F (v .state)) (λ q. rw q refl)
+      (λ q. rw q (ap (handed (outCount F (v .state))) (take-sets (a .buffer) (receive.handed F v (a .symbol)) (outCount F (v .state)) (length-data F _ _) (buffer-fits h q))))
+
+  module _ (rest : List Arrival) where
+    pub heard-fine : receiveGrounds F v a ≡ Fine → heard (frameReceive F) v (a ∷ rest) ≡ a .symbol ∷ heard (frameReceive F) (nextHeard F v (a .symbol)) rest
+    unfolding heard acceptedSteps received nextHeard
+    heard-fine h = by-test (receive.warming F (v .state)) (λ q. rw (step-fine h, q) refl) (λ q. rw (step-fine h, q) refl)
+
+    pub heard-ground : (n place : ℕ) → receiveGrounds F v a ≡ Ground n place → heard (frameReceive F) v (a ∷ rest) ≡ heard (frameReceive F) v rest
+    unfolding heard acceptedSteps
+    heard-ground n place h = rw (step-ground n place h) refl
+
+    pub told-fine : receiveGrounds F v a ≡ Fine
+        → told (frameReceive F) v (a ∷ rest) ≡ tells F (v .state) (receive.handed F v (a .symbol)) ∷ told (frameReceive F) (nextHeard F v (a .symbol)) rest
+    unfolding told acceptedSteps received nextHeard
+    told-fine h = rw (← tells-handed h) (by-test (receive.warming F (v .state)) (λ q. rw (step-fine h, q) refl) (λ q. rw (step-fine h, q) refl))
+
+    pub told-ground : (n place : ℕ) → receiveGrounds F v a ≡ Ground n place → told (frameReceive F) v (a ∷ rest) ≡ told (frameReceive F) v rest
+    unfolding told acceptedSteps
+    told-ground n place h = rw (step-ground n place h) refl
+
+    pub after-fine : receiveGrounds F v a ≡ Fine → receiverAfter (frameReceive F) v (a ∷ rest) ≡ receiverAfter (frameReceive F) (nextHeard F v (a .symbol)) rest
+    unfolding afterSteps received nextHeard
+    after-fine h = by-test (receive.warming F (v .state)) (λ q. rw (step-fine h, q) refl) (λ q. rw (step-fine h, q) refl)
+
+    pub after-ground : (n place : ℕ) → receiveGrounds F v a ≡ Ground n place → receiverAfter (frameReceive F) v (a ∷ rest) ≡ receiverAfter (frameReceive F) v rest
+    unfolding afterSteps
+    after-ground n place h = rw (step-ground n place h) refl
+
+-- each accepted step tells something
+pub length-told : (F : Frame) (v : Receiver) (steps : List Arrival) → length (told (frameReceive F) v steps) ≡ length (heard (frameReceive F) v steps)
+unfolding told heard
+length-told F v steps = length-map (receivings (frameReceive F) v steps) _ ∙ sym (length-map (receivings (frameReceive F) v steps) (λ x. x .0 .symbol))
+
+-- ---- a fresh start
+
+-- the receiver that a fresh start at phase j leaves in the lent store
+unfoldable pub freshReceiver : Frame → ℕ → List ℕ → Receiver
+freshReceiver F j lent = record { state = record { phase = j; row = 0; heard = 0 }; store = fillerStore F lent }
+
+-- v is one, in a store that is long enough
+pub record ListensIn (F : Frame) (j : ℕ) (v : Receiver) : Type 0 where
+  pub lent : List ℕ
+  pub phase-in : j < F .phases
+  pub fits : F .depth * cells F ≤ length lent
+  pub is-fresh : v ≡ freshReceiver F j lent
+
+-- the receiver that an answer and a store make, u where the answer refuses
+receiverIn : Receiver → Listening → Receiver
+receiverIn u x = elim (x .answer) [ a-start.Started e ↦ record { state = e; store = x .store } | a-start.Refused n place ↦ u ]
+
+isStarted : ListenAnswer → Bool
+isStarted (a-start.Started e) = true
+isStarted (a-start.Refused n place) = false
+
+started : (F : Frame) (j : ℕ) (lent : List ℕ) (v : Receiver) → frameListen F j lent ≡ listens (a-start.Started (v .state)) (v .store) → ListensIn F j v
+unfolding frameListen receiverIn isStarted freshReceiver
+started F j lent v s =
+    let leaves : Finding → Listening =
+    λ f. elim f [ Fine ↦ listens (a-start.Started (record { phase = j; row = 0; heard = 0 })) (fillerStore F lent) | Ground n place ↦ listens (a-start.Refused n place) lent ] in
+    by-finding (startGrounds F j lent)
+    (λ h.
+    let t : Startable F j lent = startable F j lent h in
+    record { lent = lent; phase-in = t .phase-in; fits = t .fits; is-fresh = sym (ap (receiverIn v) (sym (ap leaves h) ∙ s)) })
+    (λ n place h. absurd (false≢true (ap (λ (x : Listening). isStarted (x .answer)) (sym (ap leaves h) ∙ s))))
+
+-- ---- a plan's bytes that no ground of 1 to 15 refuses
+
+module _ (d : Device) (s : List ℕ) (fine : grounds1to15 d s ≡ Fine) where
+  -- its receive steps are those of its frame
+  pub frame-hears : hearStep d s ≡ frameReceive (frameOf d (planOf s))
+  unfolding hearStep
+  frame-hears = λ i v a. elim (fine i) [ Fine ↦ frameReceive (frameOf d (planOf s)) v a | Ground n place ↦ turnedAway v a n place ]
+
+  pub listens-in : (j : ℕ) (v : Receiver) → FreshReceiver d s j v → ListensIn (frameOf d (planOf s)) j v
+  unfolding listenStep
+  listens-in j v f =
+      let left : Finding → Listening = λ x. elim x [ Fine ↦ frameListen (frameOf d (planOf s)) j (f .lent) | Ground n place ↦ listens (a-start.Refused n place) (f .lent) ] in
+      started (frameOf d (planOf s)) j (f .lent) v (sym (ap left fine) ∙ f .start)

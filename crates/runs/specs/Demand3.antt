@@ -1,0 +1,85 @@
+-- Demand 3: one claim about whole runs from a fresh start, of a plan's bytes (document 01, "Cells and interleaving"). Statements only. Assumes nothing.
+use Prim.Native.Nat.{ℕ, _+_, _-_, _≤_, _<_}
+use mathlib.Core.Path.{_≡_}
+use mathlib.Core.Logic.{_↔_}
+use mathlib.Core.Bool.{true}
+use mathlib.Core.List.{List, []}
+use lib.ListN.{length, getD, take}
+use Rattle.counting.specs.Search.{select}
+use Rattle.rules.specs.declared.Device.{Device}
+use Rattle.rules.specs.declared.Role.the-variants.{Data}
+use Rattle.rules.specs.Plan.{Plan, planOf}
+use Rattle.rules.specs.Roles.{role}
+use Rattle.rules.specs.Frame.{Frame, frameOf, cells, spot, delay, isData, dataCount, Given, flush, symbol, dataList}
+use Rattle.rules.specs.Steps.{Emitter, Send, sendStep}
+use Rattle.rules.specs.Receive.{Receiver, Arrival, hearStep}
+use Rattle.frame.specs.Counted.{phaseOf}
+use Rattle.runs.specs.Run.{input, sent, Fresh, ReceiverSteps, isReceived, warming, handed, refused, heard, told, receiverAfter, FreshReceiver}
+
+-- How many data cells input t has, from the starting phase j; `phaseOf F j t` is the phase of input t, and of sent symbol t.
+abbrev pub dataCells : Frame → ℕ → ℕ → ℕ
+dataCells F j t = dataCount F (phaseOf F j t)
+
+-- the cell that takes number c of the data of input t
+abbrev pub dataCell : Frame → ℕ → ℕ → ℕ → ℕ
+dataCell F j t c = select (isData F (phaseOf F j t)) (cells F) c
+
+-- The place of cell q of input t is the subcarrier of q's rank, `spot F q`, in the sent symbol of this number.
+abbrev pub sentNumber : Frame → ℕ → ℕ → ℕ
+sentNumber F t q = t + delay F q
+
+-- the input gs and the sent symbols ys of a run from the starting phase j, under the plan p; F is its frame
+pub record PlacedIn (d : Device) (p : Plan) (F : Frame) (j : ℕ) (gs : List Given) (ys : List (List ℕ)) : Type 0 where
+  -- each accepted step sends one symbol
+  pub one-each : length ys ≡ length gs
+  -- a data symbol has as many numbers as its phase has data cells
+  pub all-given : (t : ℕ) (ds : List ℕ) → t < length gs → getD gs t flush ≡ symbol ds → length ds ≡ dataCells F j t
+  -- each number goes into a cell below N_I, and no two of one symbol into the same
+  pub cell : (t c : ℕ) → c < dataCells F j t → dataCell F j t c < cells F
+  pub own-cell : (t c c′ : ℕ) → c < dataCells F j t → c′ < dataCells F j t → dataCell F j t c ≡ dataCell F j t c′ → c ≡ c′
+  -- no two cells of any inputs share a place
+  pub own-place : (t t′ q q′ : ℕ) → q < cells F → q′ < cells F → sentNumber F t q ≡ sentNumber F t′ q′ → spot F q ≡ spot F q′ → (t ≡ t′) × (q ≡ q′)
+  -- the place of a data cell is a subcarrier of the symbol, with the role data at the symbol's phase
+  pub inside : (t c : ℕ) → c < dataCells F j t → spot F (dataCell F j t c) < d .subcarriers
+  pub role-data : (t c : ℕ) → c < dataCells F j t → role d p (phaseOf F j (sentNumber F t (dataCell F j t c))) (spot F (dataCell F j t c)) ≡ Data
+  -- once the run reaches the place, the number stands there unchanged
+  pub stands : (t c : ℕ) (ds : List ℕ) → t < length gs → getD gs t flush ≡ symbol ds → c < length ds → sentNumber F t (dataCell F j t c) < length ys
+      → getD (getD ys (sentNumber F t (dataCell F j t c)) []) (spot F (dataCell F j t c)) 0 ≡ getD ds c 0
+
+abbrev pub Placed : Device → Plan → ℕ → List Given → List (List ℕ) → Type 0
+Placed d p j gs ys = PlacedIn d p (frameOf d p) j gs ys
+
+-- a flushed run has flushes as its last M - 1 accepted steps
+pub record Flushed (m : ℕ) (gs : List Given) : Type 0 where
+  pub enough : m - 1 ≤ length gs
+  pub last : (i : ℕ) → length gs ≤ i + (m - 1) → i < length gs → getD gs i flush ≡ flush
+
+-- A receiver's run follows an emitter's, of the same plan and starting phase, if its accepted steps were given the first symbols sent, in order.
+abbrev pub Follows : List (List ℕ) → List (List ℕ) → Type 0
+Follows ys hs = hs ≡ take (length hs) ys
+
+-- what the steps of a receiver v tell, if its run follows an emitter's with the input gs and the sent symbols ys
+pub record Returned (F : Frame) (step : ReceiverSteps) (j : ℕ) (gs : List Given) (ys : List (List ℕ)) (v : Receiver) (steps : List Arrival) : Type 0 where
+  -- each accepted step tells something; numbers 0 to M - 2 answer warming
+  pub each : length (told step v steps) ≡ length (heard step v steps)
+  pub warms : (i : ℕ) → i < length (heard step v steps) → i < F .depth - 1 → getD (told step v steps) i refused ≡ warming
+  -- number t + M - 1 answers data, with N_D of input t as its count, and hands out the data cells of input t in the order given, all filler for a flush
+  pub back : (t : ℕ) → t + (F .depth - 1) < length (heard step v steps)
+      → getD (told step v steps) (t + (F .depth - 1)) refused ≡ handed (dataCells F j t) (dataList F (phaseOf F j t) (getD gs t flush))
+  -- one more step, given the next symbol sent and, unless it is to answer warming, a data buffer long enough, is not refused
+  pub next : (a : Arrival) → length (heard step v steps) < length ys → a .symbol ≡ getD ys (length (heard step v steps)) []
+      → (F .depth - 1 ≤ length (heard step v steps) → dataCells F j (length (heard step v steps) - (F .depth - 1)) ≤ length (a .buffer))
+      → isReceived (step (receiverAfter step v steps) a .answer) ≡ true
+
+-- demand 3 of a plan's bytes s
+pub record Demand3 (d : Device) (s : List ℕ) : Type 0 where
+  -- each data cell has one place of its own
+  pub placed : (j : ℕ) (e : Emitter) → Fresh d s j e → (steps : List Send) → Placed d (planOf s) j (input (sendStep d s) e steps) (sent (sendStep d s) e steps)
+  -- two flushed runs send the same symbols exactly when their inputs are the same
+  pub unique : (j : ℕ) (e e′ : Emitter) → Fresh d s j e → Fresh d s j e′ → (steps steps′ : List Send)
+      → Flushed (planOf s .depth) (input (sendStep d s) e steps) → Flushed (planOf s .depth) (input (sendStep d s) e′ steps′)
+      → (sent (sendStep d s) e steps ≡ sent (sendStep d s) e′ steps′) ↔ (input (sendStep d s) e steps ≡ input (sendStep d s) e′ steps′)
+  -- the receiver hands the input back
+  pub returned : (j : ℕ) (e : Emitter) (v : Receiver) → Fresh d s j e → FreshReceiver d s j v → (steps : List Send) (arrivals : List Arrival)
+      → Follows (sent (sendStep d s) e steps) (heard (hearStep d s) v arrivals)
+      → Returned (frameOf d (planOf s)) (hearStep d s) j (input (sendStep d s) e steps) (sent (sendStep d s) e steps) v arrivals

@@ -1,0 +1,87 @@
+"""What the makers of test data share: the checksum, the stored stdin and stdout of
+a program, and the trying of bent models."""
+
+import sys
+from operator import mul
+from pathlib import Path
+
+ROOT = Path(__file__).resolve().parent.parent
+PRIME = 2147483647
+BLOCK = 4096
+
+
+# --- the checksum ----------------------------------------------------------
+
+def mix(total, numbers):
+    """A polynomial modulo the prime 2^31 - 1, so that the order counts."""
+    for v in numbers:
+        total = (total * 48271 + v) % PRIME
+    return total
+
+
+POWERS = [pow(48271, BLOCK - 1 - i, PRIME) for i in range(BLOCK)]
+
+
+class Blocks:
+    """What up to 4,096 cells add to a checksum.  The last is kept: a refused step
+    leaves a symbol or buffer as it was, and much of a store is alike."""
+    last, added = [], 0
+
+    @classmethod
+    def add(cls, block):
+        if block != cls.last:
+            cls.last, cls.added = block, sum(map(mul, block, POWERS[-len(block):]))
+        return cls.added
+
+
+def mix_cells(total, cells):
+    """The same for many cells, faster: 4,096 of them at a time."""
+    for at in range(0, len(cells), BLOCK):
+        block = cells[at:at + BLOCK]
+        total = (total * pow(48271, len(block), PRIME) + Blocks.add(block)) % PRIME
+    return total
+
+
+# --- bent models -----------------------------------------------------------
+
+def try_mutants(mutants, change_of, equivalent, count):
+    """Prints which of the `count` cases each of the (name, model) changes first, as
+    change_of(name, model) says.  `equivalent` has the reasons of those that change none.
+    Answers how many change none, or change one though they are equivalent."""
+    names = set()
+    killed = survived = wrong = 0
+    for name, model in mutants:
+        assert name not in names, 'two mutants named ' + name
+        names.add(name)
+        changed = change_of(name, model)
+        killed += changed is not None
+        survived += changed is None and name not in equivalent
+        wrong += (changed is None) != (name in equivalent)
+        verdict = ('killed     ' if changed else 'equivalent ' if name in equivalent
+                   else 'SURVIVED   ')
+        print('%s%-62s %s' % (verdict, name, changed or equivalent.get(name, '')), flush=True)
+    assert set(equivalent) <= names, 'a listed mutant that is none'
+    print('%d mutants, %d killed, %d equivalent, %d survived; %d cases'
+          % (len(names), killed, len(names) - killed - survived, survived, count))
+    return wrong
+
+
+# --- the run ---------------------------------------------------------------
+
+def run(crate, given, wanted, mutants=None):
+    """Writes stdin and stdout of a crate; --check compares them instead, --mutants
+    tries the bent models: `mutants` does, and answers how many were wrong."""
+    paths = [ROOT / 'crates' / crate / name for name in ('stdin', 'stdout')]
+    wrong = 0
+    if '--check' in sys.argv[1:]:
+        for path, want in zip(paths, (given, wanted)):
+            if not path.exists() or path.read_bytes() != want:
+                print('differs: %s' % path.relative_to(ROOT))
+                wrong = 1
+    if mutants and '--mutants' in sys.argv[1:]:
+        wrong += mutants()
+    if len(sys.argv) == 1:
+        paths[0].parent.mkdir(parents=True, exist_ok=True)
+        paths[0].write_bytes(given)
+        paths[1].write_bytes(wanted)
+    sys.exit(1 if wrong else 0)
