@@ -1027,9 +1027,8 @@ def try_mutants(cases, lines):
     """The equivalent ones are tried on the first 40 cases, which come before the
     larger plans."""
     def change_of(name, model):
-        tried = zip(cases[:40] if name in EQUIVALENT else cases, lines)
-        return next((case[0] for case, want in tried
-                     if line_of(model, *case[1:4]) != want), None)
+        tried = cases[:40] if name in EQUIVALENT else cases
+        return stored.first_change(line_of, tried, lines, model)
     return stored.try_mutants(all_mutants(), change_of, EQUIVALENT, len(cases))
 
 

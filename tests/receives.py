@@ -1002,9 +1002,8 @@ def all_mutants():
 def try_mutants(cases, lines):
     """The equivalent ones are tried on the cases before the larger plans."""
     def change_of(name, model):
-        tried = zip(cases[:45] if name in EQUIVALENT else cases, lines)
-        return next((case[0] for case, want in tried
-                     if line_of(model, *case[1:4]) != want), None)
+        tried = cases[:45] if name in EQUIVALENT else cases
+        return stored.first_change(line_of, tried, lines, model)
     return stored.try_mutants(all_mutants(), change_of, EQUIVALENT, len(cases))
 
 

@@ -44,6 +44,13 @@ def mix_cells(total, cells):
 
 # --- bent models -----------------------------------------------------------
 
+def first_change(line_of, cases, lines, model):
+    """The name of the first case of which the model gives another line, or None.  A case
+    is its name, then what line_of takes after the model."""
+    return next((case[0] for case, want in zip(cases, lines)
+                 if line_of(model, *case[1:4]) != want), None)
+
+
 def try_mutants(mutants, change_of, equivalent, count):
     """Prints which of the `count` cases each of the (name, model) changes first, as
     change_of(name, model) says.  `equivalent` has the reasons of those that change none.

@@ -1,24 +1,19 @@
 -- Single turns of the loops over marks and flags. Assumes nothing.
 use Prim.Native.Nat.{ℕ, _+_, _%_, _<_}
-use mathlib.Core.Path.{_≡_, refl, sym, ap, _∙_}
+use mathlib.Core.Path.{_≡_, sym, ap, _∙_}
 use mathlib.Core.Logic.{by-cases}
 use mathlib.Core.Bool.{Bool, true, false}
 use mathlib.Core.List.{List}
-use native.Mathlib.Numerals.{add-one}
 use native.Mathlib.Decide.{decLt}
 use native.Mathlib.Omega.{arith}
 use lib.ListN.{length, getD, set}
 use lib.Seq.{getD-set-same, getD-set-other}
 use borrow.Author.Tests.{eq-eqb, ne-eqb}
-use Rattle.counting.specs.Search.{bit, sum, count, select}
+use Rattle.counting.specs.Search.{bit, count, select}
 use Rattle.counting.proofs.Bools.{by-test}
 use Rattle.counting.proofs.Select.{select-count}
 use Rattle.rules.specs.Device.{phases}
 use Rattle.cells.specs.Loops.{meets}
-
-pub count-next : (t : ℕ → Bool) (k : ℕ) → count t (k + 1) ≡ count t k + bit (t k)
-unfolding count sum
-count-next t k = rw add-one refl
 
 -- a cell p of the delay d, on the subcarrier x
 module _ (base m : ℕ) (kc : List ℕ) (p d x : ℕ) (e : p % m ≡ d) (ex : x ≡ getD kc p 0) where

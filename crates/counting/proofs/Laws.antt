@@ -6,6 +6,7 @@ use mathlib.Core.Option.{Option, none, some}
 use mathlib.Core.List.{List, [], _++_}
 use Prim.Native.Nat.{ℕ, zero, suc, _+_, _≤_, _<_, zero-le}
 use native.Mathlib.Nat.{add-zero, zero-add, add-suc, suc-add, not-suc-le-zero, le-refl, le-suc, le-trans, lt-irrefl, eq-or-lt-of-le, le-of-suc-le-suc, le-of-eq}
+use native.Mathlib.Numerals.{add-one}
 use native.Mathlib.Omega.{arith}
 use native.Mathlib.Decide.{le-ind}
 use lib.Seq.{getD-at}
@@ -28,6 +29,11 @@ pub count-add : (p : ℕ → Bool) (a n : ℕ) → count p (a + n) ≡ count p a
 unfolding count sum
 count-add p a zero = ap (count p) (add-zero a) ∙ sym (add-zero (count p a))
 count-add p a (suc n) = rw add-suc (rw (count-add p a n) (omega arith))
+
+-- one more counted
+pub count-step : (p : ℕ → Bool) (k : ℕ) → count p (k + 1) ≡ count p k + bit (p k)
+unfolding count sum
+count-step p k = rw add-one refl
 
 pub bit-le : (b : Bool) → bit b ≤ 1
 bit-le true = le-refl 1

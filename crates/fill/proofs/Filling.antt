@@ -2,16 +2,15 @@
 use Prim.Native.Nat.{ℕ, _+_, _≤_, _<_}
 use mathlib.Core.Path.{_≡_, refl, sym, ap, _∙_}
 use mathlib.Core.Logic.{by-cases}
-use mathlib.Core.Bool.{Bool, true, false}
+use mathlib.Core.Bool.{true, false}
 use mathlib.Core.List.{List}
 use native.Mathlib.Decide.{decLt}
-use native.Mathlib.Numerals.{add-one}
 use native.Mathlib.Omega.{arith}
 use lib.ListN.{length, getD, set, length-set}
 use lib.Seq.{getD-set-same, getD-set-other}
 use borrow.Author.Tests.{eq-eqb, ne-eqb}
 use Rattle.counting.specs.Search.{bit, sum, count, tabulate, isZero}
-use Rattle.counting.proofs.Laws.{count-lt}
+use Rattle.counting.proofs.Laws.{count-lt, count-step}
 use Rattle.counting.proofs.Lists.{is-tabulate}
 use Rattle.rules.specs.Frame.{placeholder, filler}
 use Rattle.fill.specs.Flags.{dataCell, fillerCell}
@@ -37,11 +36,6 @@ filled-put n p f row y v l h ey e = record {
 
 pub filled-all : (n p : ℕ) (f : ℕ → ℕ) (row : List ℕ) → n ≤ p → Filled n p f row → row ≡ tabulate f n
 filled-all n p f row h l = is-tabulate row n f (l .long) (λ q k. l .below q (omega arith))
-
--- one more counted
-pub count-step : (t : ℕ → Bool) (k : ℕ) → count t (k + 1) ≡ count t k + bit (t k)
-unfolding count sum
-count-step t k = rw add-one refl
 
 -- ---- one flag
 pub zero-yes : (l : List ℕ) (p : ℕ) → getD l p 0 ≡ 0 → isZero l p ≡ true

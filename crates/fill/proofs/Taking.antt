@@ -9,11 +9,11 @@ use native.Mathlib.Omega.{arith}
 use lib.ListN.{length, getD, set, take, length-set}
 use lib.Seq.{sets, take-all}
 use Rattle.counting.specs.Search.{bit, sum, count, isZero}
-use Rattle.counting.proofs.Laws.{count-le, count-lt}
+use Rattle.counting.proofs.Laws.{count-le, count-lt, count-step}
 use Rattle.counting.proofs.Lists.{length-tabulate, getD-tabulate, sets-snoc}
 use Rattle.counting.proofs.Select.{select-count}
 use Rattle.fill.specs.Flags.{takenData}
-use Rattle.fill.proofs.Filling.{count-step, zero-yes, zero-no}
+use Rattle.fill.proofs.Filling.{zero-yes, zero-no}
 
 -- the first d data cells, those of the cells below p, stand in the buffer b that was b₀
 pub record Taking (flag x b₀ b : List ℕ) (p d : ℕ) : Type 0 where

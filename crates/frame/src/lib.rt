@@ -1,1 +1,1 @@
-// The frame of an accepted plan: laws of ranks, cells, placeholders and N_D, and what acceptance says of them. No code.
+// Laws of any frame: ranks, cells, placeholders, N_D and symbols on the line; the house rule's rank in closed form; the counts over all phases. No code.

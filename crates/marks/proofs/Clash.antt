@@ -15,10 +15,10 @@ use Rattle.counting.proofs.Bools.{or-false, neither, eqb-sym}
 use Rattle.rules.specs.declared.Device.{Device}
 use Rattle.rules.specs.Plan.{Entry, Plan}
 use Rattle.rules.specs.Bands.{any, excluded}
-use Rattle.rules.specs.Roles.{oneOf, predefined, names, inPlc, continuous, mark, continuousMark}
+use Rattle.rules.specs.Roles.{oneOf, predefined, names, inPlc, continuous, mark, continuousMark, firstMark}
 use Rattle.rules.specs.Grounds.{pilotClash}
 use Rattle.marks.specs.Marked.{Cells, Marked}
-use Rattle.marks.specs.Stages.{firstMark, withPilots, Placed}
+use Rattle.marks.specs.Stages.{withPilots, Placed}
 use Rattle.marks.proofs.Stretches.{cells-same}
 use Rattle.marks.proofs.Placing.{Apart, pilot-more}
 use Rattle.marks.proofs.Testing.{mark-is}

@@ -13,11 +13,10 @@ use Rattle.rules.specs.declared.Device.{Device}
 use Rattle.rules.specs.declared.Finding.the-variants.{Fine}
 use Rattle.rules.specs.Plan.{Plan}
 use Rattle.rules.specs.Bands.{excluded, active}
-use Rattle.rules.specs.Roles.{inPlc, continuous, ranked, mark, marks}
+use Rattle.rules.specs.Roles.{inPlc, continuous, ranked, mark, marks, firstMark}
 use Rattle.rules.specs.Grounds.{_else_, ground?, outside, aroundPlc, pilotClash}
 use Rattle.rules.specs.Fits.{capacity}
 use Rattle.marks.specs.Marked.{Marked, grounds6to8}
-use Rattle.marks.specs.Stages.{firstMark}
 use Rattle.marks.proofs.Testing.{mark-is}
 
 -- the whole array is the list of marks, where the device has as many subcarriers as the array cells

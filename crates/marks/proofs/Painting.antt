@@ -9,12 +9,13 @@ use native.Mathlib.Omega.{arith}
 use lib.Dec.{ltb, eqb}
 use lib.ListN.{length, getD}
 use borrow.Author.Tests.{lt-ltb, le-ltb}
+use Rattle.counting.specs.Search.{isZero}
 use Rattle.counting.specs.Runs.{Run, Runs, before}
 use Rattle.counting.proofs.Bools.{Less, decide, and-false}
-use Rattle.rules.specs.Roles.{excludedMark}
+use Rattle.rules.specs.Roles.{excludedMark, firstMark}
 use Rattle.rules.specs.Fits.{capacity}
 use Rattle.marks.specs.Marked.{Cells}
-use Rattle.marks.specs.Stages.{between, Stamped, FirstOf, isClear, firstMark, painted}
+use Rattle.marks.specs.Stages.{between, Stamped, FirstOf, painted}
 use Rattle.marks.proofs.Stretches.{cells-same, cells-spread}
 
 -- the test, below b
@@ -75,8 +76,8 @@ module _ (e : ℕ → Bool) (size : ℕ) where
       go k h (inl (a, t)) = ap (λ (b : Bool). b && e k) t
       go k h (inr (a, t)) = ap (λ (b : Bool). b && e k) t ∙ sym (r .last k a h)
 
-  clear-is : (m : List ℕ) → Cells size (painted e) m → (k : ℕ) → k < size → not (e k) ≡ isClear m k
-  unfolding isClear painted
+  clear-is : (m : List ℕ) → Cells size (painted e) m → (k : ℕ) → k < size → not (e k) ≡ isZero m k
+  unfolding isZero painted
   clear-is m w k l = go (e k) ∙ ap (λ (x : ℕ). eqb x 0) (sym (w .cell k l))
     where
       go : (b : Bool) → not b ≡ eqb (firstMark b false false) 0
@@ -88,7 +89,7 @@ module _ (e : ℕ → Bool) (size : ℕ) where
   flip false t h = ap not h
 
   -- the first clear cell is the first of which the test does not hold, the first marked one the first of which it does
-  pub first-painted : (t : Bool) (m : List ℕ) (a b r : ℕ) → Cells size (painted e) m → b ≤ size → FirstOf t (isClear m) a b r → FirstOf (not t) e a b r
+  pub first-painted : (t : Bool) (m : List ℕ) (a b r : ℕ) → Cells size (painted e) m → b ≤ size → FirstOf t (isZero m) a b r → FirstOf (not t) e a b r
   first-painted t m a b r w l f = record {
     low = f .low;
     high = f .high;

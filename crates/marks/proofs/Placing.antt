@@ -12,10 +12,10 @@ use Rattle.counting.proofs.Bools.{and-false, or-false, or-true}
 use Rattle.rules.specs.declared.Device.{Device}
 use Rattle.rules.specs.Plan.{Plan}
 use Rattle.rules.specs.Bands.{excluded}
-use Rattle.rules.specs.Roles.{oneOf, predefined, inPlc, continuousMark, plcMark}
+use Rattle.rules.specs.Roles.{oneOf, predefined, inPlc, continuousMark, plcMark, firstMark}
 use Rattle.rules.specs.Fits.{Fits, capacity}
 use Rattle.marks.specs.Marked.{Cells}
-use Rattle.marks.specs.Stages.{between, Stamped, AllBelow, firstMark, painted, withPilots, Free}
+use Rattle.marks.specs.Stages.{between, Stamped, AllBelow, painted, withPilots, Free}
 use Rattle.marks.proofs.Stretches.{cells-spread, cells-stamp, cells-set}
 use Rattle.marks.proofs.Around.{around-active}
 use Rattle.marks.proofs.Eight.{beside, eight-long, Place, place}

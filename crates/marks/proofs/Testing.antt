@@ -7,21 +7,10 @@ use native.Mathlib.Omega.{arith}
 use lib.Dec.{eqb}
 use Rattle.counting.proofs.Bools.{decide-bool}
 use Rattle.rules.specs.declared.Device.{Device}
-use Rattle.rules.specs.declared.Role.{Role}
-use Rattle.rules.specs.declared.Role.the-variants.{Excluded, Plc, Continuous, Scattered, Data}
 use Rattle.rules.specs.Device.{phases}
 use Rattle.rules.specs.Plan.{Plan}
 use Rattle.rules.specs.Bands.{any, excluded}
-use Rattle.rules.specs.Roles.{oneOf, predefined, names, inPlc, continuous, scatteredAt, role, mark, excludedMark, continuousMark}
-use Rattle.marks.specs.Stages.{firstMark}
-
--- the role of the first test that holds
-abbrev pub firstRole : Bool → Bool → Bool → Bool → Role
-firstRole true b c e = Excluded
-firstRole false true c e = Plc
-firstRole false false true e = Continuous
-firstRole false false false true = Scattered
-firstRole false false false false = Data
+use Rattle.rules.specs.Roles.{oneOf, predefined, names, inPlc, continuous, scatteredAt, role, mark, excludedMark, continuousMark, firstMark, firstRole}
 
 marked-excluded : (a b c : Bool) → firstMark a b c ≡ excludedMark → a ≡ true
 marked-excluded true b c e = refl

@@ -4,14 +4,14 @@ use mathlib.Core.Path.{_≡_}
 use mathlib.Core.Bool.{Bool, true, false, not, _&&_}
 use mathlib.Core.List.{List, map}
 use mathlib.Core.Option.{none}
-use lib.Dec.{leb, ltb, eqb}
+use lib.Dec.{leb, ltb}
 use lib.ListN.{length, getD, take}
 use Rattle.counting.specs.declared.Found.{Found}
 use Rattle.counting.specs.declared.Found.the-variants.{At, Nothing}
 use Rattle.rules.specs.declared.Device.{Device}
 use Rattle.rules.specs.Plan.{Entry, Plan}
 use Rattle.rules.specs.Bands.{excluded}
-use Rattle.rules.specs.Roles.{oneOf, predefined, inPlc, excludedMark, continuousMark, plcMark}
+use Rattle.rules.specs.Roles.{oneOf, predefined, inPlc, firstMark}
 use Rattle.rules.specs.Grounds.{aroundPlc, pilotsMax}
 use Rattle.rules.specs.Fits.{Fits, capacity}
 use Rattle.marks.specs.Marked.{Cells, Marked}
@@ -36,17 +36,6 @@ pub record FirstOf (t : Bool) (e : ℕ → Bool) (a b r : ℕ) : Type 0 where
   pub high : r ≤ b
   pub none : (k : ℕ) → a ≤ k → k < r → e k ≡ not t
   pub some : r < b → e r ≡ t
-
--- no mark stands at k
-unfoldable pub isClear : List ℕ → ℕ → Bool
-isClear m k = eqb (getD m k 0) 0
-
--- the mark of the first role that applies: excluded, PLC, continuous; 0 if none does
-abbrev pub firstMark : Bool → Bool → Bool → ℕ
-firstMark true plc pilot = excludedMark
-firstMark false true pilot = plcMark
-firstMark false false true = continuousMark
-firstMark false false false = 0
 
 -- the first stage: the excluded mark where the test holds
 unfoldable pub painted : (ℕ → Bool) → ℕ → ℕ

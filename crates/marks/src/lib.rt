@@ -4,6 +4,7 @@ ghost use Prim.Native.Nat.{_≤_, _<_};
 ghost use mathlib.Core.Path.{_≡_};
 ghost use mathlib.Core.List.{[]};
 ghost use lib.ListN.{length};
+ghost use Rattle.counting.specs.Search.{isZero};
 ghost use Rattle.counting.specs.Answer.{placeOf};
 ghost use Rattle.counting.specs.Runs.{Runs};
 ghost use Rattle.rules.specs.Device.{khz50, phases};
@@ -14,7 +15,7 @@ ghost use Rattle.rules.specs.Grounds.{outside, aroundPlc, pilotClash};
 ghost use Rattle.rules.specs.Answers.{pilotsOf};
 ghost use Rattle.rules.specs.Fits.{Fits, capacity};
 ghost use Rattle.marks.specs.Marked.{Cells, grounds6to8, MarkedIf, Ready};
-ghost use Rattle.marks.specs.Stages.{between, Stamped, AllBelow, FirstOf, isClear, painted, withPilots, Free, Placed, AfterPilots};
+ghost use Rattle.marks.specs.Stages.{between, Stamped, AllBelow, FirstOf, painted, withPilots, Free, Placed, AfterPilots};
 use counting::Found;
 use counting::wide;
 use rules::Device;
@@ -148,7 +149,7 @@ fn paint(plan: &[u8], size: usize, lo: &[u16], hi: &[u16], n: usize, m: &mut [u1
 // The first cell from a to b - 1 that is clear, or that is marked; b if there is none.
 fn first_from(m: &[u16; 4096], a: usize, b: usize, clear: bool) -> usize
     requires { ⌜ (a ≤ b) × (b ≤ capacity) ⌝ }
-    ensures { λ r. ⌜ FirstOf clear (isClear (now (m .entry))) a b r ⌝ }
+    ensures { λ r. ⌜ FirstOf clear (isZero (now (m .entry))) a b r ⌝ }
 {
     let mut k = a;
     while k < b {

@@ -39,7 +39,7 @@ module _ (d : Device) (s : List ℕ) (fine : grounds1to15 d s ≡ Fine) (ok : So
       let F : Frame = frameOf d (planOf s) in
       record {
         placed = λ j e f steps.
-            subst (λ (step : EmitterSteps). Placed d (planOf s) j (input step e steps) (sent step e steps)) (sym (frame-steps d s fine))
+            subst (λ (step : EmitterSteps). Placed F j (input step e steps) (sent step e steps)) (sym (frame-steps d s fine))
             (placed d (planOf s) ok j e (fresh-in d s fine j e f) steps);
         unique = λ j e e′ f f′ steps steps′.
             subst

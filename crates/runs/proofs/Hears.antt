@@ -9,7 +9,7 @@ use lib.ListN.{length, take, length-map}
 use lib.Seq.{sets, length-sets, ext-getD, length-take-le, getD-take}
 use borrow.Author.Tests.{ltb-false}
 use Rattle.counting.specs.Search.{pick}
-use Rattle.counting.proofs.Bools.{by-test}
+use Rattle.counting.proofs.Bools.{neither, by-test}
 use Rattle.counting.proofs.Lists.{getD-sets-0}
 use Rattle.rules.specs.declared.Device.{Device}
 use Rattle.rules.specs.declared.Finding.{Finding}
@@ -29,11 +29,6 @@ use Rattle.facts.proofs.Accepted.{when-fine}
 use Rattle.frame.proofs.Cells.{length-data}
 use Rattle.runs.specs.Run.{acceptedSteps, afterSteps, isReceived, Told, warming, handed, toldBy, receivings, heard, told, receiverAfter, FreshReceiver}
 use Rattle.runs.proofs.Steps.{by-finding, Startable, startable}
-
--- a test that fails has no part that passes
-or-false : (a b : Bool) → (a || b) ≡ false → (a ≡ false) × (b ≡ false)
-or-false true b e = absurd (false≢true (sym e))
-or-false false b e = (refl, e)
 
 -- what was stored from the start on is what stands there
 take-sets : (b xs : List ℕ) (n : ℕ) → length xs ≡ n → n ≤ length b → take n (sets b 0 xs) ≡ xs
@@ -77,7 +72,7 @@ module _ (F : Frame) (v : Receiver) (a : Arrival) where
   buffer-fits h q =
       let rest = both-fine (receiverGround16 F (v .state)) _ h .1 in
       let short = when-fine 17 0 _ (both-fine _ (ground20 F (v .state .phase) (a .symbol)) rest .0) in
-      ltb-false _ _ (sym (ap (λ (b : Bool). not b && ltb (length (a .buffer)) (outCount F (v .state))) q) ∙ or-false (shortStore F (v .store) || not (eqb (length (a .symbol)) (F .width))) _ short .1)
+      ltb-false _ _ (sym (ap (λ (b : Bool). not b && ltb (length (a .buffer)) (outCount F (v .state))) q) ∙ neither (shortStore F (v .store) || not (eqb (length (a .symbol)) (F .width))) _ short .1)
 
   tells-handed : receiveGrounds F v a ≡ Fine → toldBy (received F v a .answer) (received F v a .buffer) ≡ tells F (v .state) (receive.handed F v (a .symbol))
   unfolding received tells receive.handed

@@ -108,7 +108,7 @@ module _ (F : Frame) (ok : Sound F) (j : ℕ) where
 -- ---- the claim, of a run under the frame of a plan
 
 pub placed : (d : Device) (p : Plan) → Sound (frameOf d p) → (j : ℕ) (e : Emitter) → FreshIn (frameOf d p) j e → (steps : List Send)
-    → Placed d p j (input (frameStep (frameOf d p)) e steps) (sent (frameStep (frameOf d p)) e steps)
+    → Placed (frameOf d p) j (input (frameStep (frameOf d p)) e steps) (sent (frameStep (frameOf d p)) e steps)
 unfolding frameOf
 placed d p ok j e fresh steps =
     let F : Frame = frameOf d p in

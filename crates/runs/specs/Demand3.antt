@@ -8,8 +8,7 @@ use lib.ListN.{length, getD, take}
 use Rattle.counting.specs.Search.{select}
 use Rattle.rules.specs.declared.Device.{Device}
 use Rattle.rules.specs.declared.Role.the-variants.{Data}
-use Rattle.rules.specs.Plan.{Plan, planOf}
-use Rattle.rules.specs.Roles.{role}
+use Rattle.rules.specs.Plan.{planOf}
 use Rattle.rules.specs.Frame.{Frame, frameOf, cells, spot, delay, isData, dataCount, Given, flush, symbol, dataList}
 use Rattle.rules.specs.Steps.{Emitter, Send, sendStep}
 use Rattle.rules.specs.Receive.{Receiver, Arrival, hearStep}
@@ -28,8 +27,8 @@ dataCell F j t c = select (isData F (phaseOf F j t)) (cells F) c
 abbrev pub sentNumber : Frame → ℕ → ℕ → ℕ
 sentNumber F t q = t + delay F q
 
--- the input gs and the sent symbols ys of a run from the starting phase j, under the plan p; F is its frame
-pub record PlacedIn (d : Device) (p : Plan) (F : Frame) (j : ℕ) (gs : List Given) (ys : List (List ℕ)) : Type 0 where
+-- the input gs and the sent symbols ys of a run from the starting phase j, under the plan whose frame is F
+pub record Placed (F : Frame) (j : ℕ) (gs : List Given) (ys : List (List ℕ)) : Type 0 where
   -- each accepted step sends one symbol
   pub one-each : length ys ≡ length gs
   -- a data symbol has as many numbers as its phase has data cells
@@ -40,14 +39,11 @@ pub record PlacedIn (d : Device) (p : Plan) (F : Frame) (j : ℕ) (gs : List Giv
   -- no two cells of any inputs share a place
   pub own-place : (t t′ q q′ : ℕ) → q < cells F → q′ < cells F → sentNumber F t q ≡ sentNumber F t′ q′ → spot F q ≡ spot F q′ → (t ≡ t′) × (q ≡ q′)
   -- the place of a data cell is a subcarrier of the symbol, with the role data at the symbol's phase
-  pub inside : (t c : ℕ) → c < dataCells F j t → spot F (dataCell F j t c) < d .subcarriers
-  pub role-data : (t c : ℕ) → c < dataCells F j t → role d p (phaseOf F j (sentNumber F t (dataCell F j t c))) (spot F (dataCell F j t c)) ≡ Data
+  pub inside : (t c : ℕ) → c < dataCells F j t → spot F (dataCell F j t c) < F .width
+  pub role-data : (t c : ℕ) → c < dataCells F j t → F .role (phaseOf F j (sentNumber F t (dataCell F j t c))) (spot F (dataCell F j t c)) ≡ Data
   -- once the run reaches the place, the number stands there unchanged
   pub stands : (t c : ℕ) (ds : List ℕ) → t < length gs → getD gs t flush ≡ symbol ds → c < length ds → sentNumber F t (dataCell F j t c) < length ys
       → getD (getD ys (sentNumber F t (dataCell F j t c)) []) (spot F (dataCell F j t c)) 0 ≡ getD ds c 0
-
-abbrev pub Placed : Device → Plan → ℕ → List Given → List (List ℕ) → Type 0
-Placed d p j gs ys = PlacedIn d p (frameOf d p) j gs ys
 
 -- a flushed run has flushes as its last M - 1 accepted steps
 pub record Flushed (m : ℕ) (gs : List Given) : Type 0 where
@@ -74,7 +70,7 @@ pub record Returned (F : Frame) (step : ReceiverSteps) (j : ℕ) (gs : List Give
 -- demand 3 of a plan's bytes s
 pub record Demand3 (d : Device) (s : List ℕ) : Type 0 where
   -- each data cell has one place of its own
-  pub placed : (j : ℕ) (e : Emitter) → Fresh d s j e → (steps : List Send) → Placed d (planOf s) j (input (sendStep d s) e steps) (sent (sendStep d s) e steps)
+  pub placed : (j : ℕ) (e : Emitter) → Fresh d s j e → (steps : List Send) → Placed (frameOf d (planOf s)) j (input (sendStep d s) e steps) (sent (sendStep d s) e steps)
   -- two flushed runs send the same symbols exactly when their inputs are the same
   pub unique : (j : ℕ) (e e′ : Emitter) → Fresh d s j e → Fresh d s j e′ → (steps steps′ : List Send)
       → Flushed (planOf s .depth) (input (sendStep d s) e steps) → Flushed (planOf s .depth) (input (sendStep d s) e′ steps′)

@@ -5,8 +5,7 @@ use mathlib.Core.Path.{_≡_, refl}
 use native.Mathlib.Omega.{arith}
 use lib.ListN.{length}
 use Rattle.counting.specs.Search.{sum, count}
-use Rattle.counting.proofs.Laws.{count-le, bit-le}
-use Rattle.cells.proofs.Turns.{count-next}
+use Rattle.counting.proofs.Laws.{count-le, bit-le, count-step}
 use Rattle.arrivals.specs.Expected.{allowedAt}
 use Rattle.arrivals.proofs.fitting_cells.Statement.{statement}
 use Rattle.arrivals.proofs.fitting_cells.Tie as tie
@@ -54,7 +53,7 @@ unfolding allowedAt
 loop-again c =
     let a = c .before .before .before .before .before .before .before .args in
     let l = c .before .before .before .before .loop in
-    (omega arith, rw (c .cell-fits .ensures) (omega (arith, count-next (allowedAt (a .marks .now) (a .symbol .now)) (l .k), l .inv .1)))
+    (omega arith, rw (c .cell-fits .ensures) (omega (arith, count-step (allowedAt (a .marks .now) (a .symbol .now)) (l .k), l .inv .1)))
 
 returns : tie.Need-returns Inv-loop μ-loop
 returns c =

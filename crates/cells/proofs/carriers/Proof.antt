@@ -6,8 +6,8 @@ use native.Mathlib.Omega.{arith}
 use lib.Dec.{eqb}
 use lib.ListN.{length, getD, length-set}
 use Rattle.counting.specs.Search.{sum, count, select, isZero}
-use Rattle.counting.proofs.Laws.{count-le, bit-le}
-use Rattle.cells.proofs.Turns.{listed-next, count-next}
+use Rattle.counting.proofs.Laws.{count-le, bit-le, count-step}
+use Rattle.cells.proofs.Turns.{listed-next}
 use Rattle.cells.proofs.carriers.Statement.{statement}
 use Rattle.cells.proofs.carriers.Tie as tie
 
@@ -56,7 +56,7 @@ loop-again c =
     let e = c .one-if-zero .ensures in
     let low = count-le (isZero (a .mark .now)) (l .k) in (
       omega arith,
-      rw e (omega (arith, count-next (isZero (a .mark .now)) (l .k), l .inv .1)),
+      rw e (omega (arith, count-step (isZero (a .mark .now)) (l .k), l .inv .1)),
       length-set (l .car) (l .n) (l .k) ∙ l .inv .2,
       rw e (listed-next (isZero (a .mark .now)) (a .width) (l .k) (l .n) (l .car) (omega arith) (l .inv .1) (omega arith) (l .inv .3)),
     )

@@ -5,8 +5,7 @@ use mathlib.Core.Path.{_≡_, refl}
 use native.Mathlib.Omega.{arith}
 use lib.ListN.{length}
 use Rattle.counting.specs.Search.{sum, count}
-use Rattle.counting.proofs.Laws.{count-le, bit-le}
-use Rattle.fill.proofs.Filling.{count-step}
+use Rattle.counting.proofs.Laws.{count-le, bit-le, count-step}
 use Rattle.fill.proofs.Over.{isSmall}
 use Rattle.fill.proofs.small_cells.Statement.{statement}
 use Rattle.fill.proofs.small_cells.Tie as tie

@@ -4,13 +4,13 @@ use Prim.Native.Nat.{ℕ, _-_, _≤_, _<_}
 use mathlib.Core.Path.{_≡_}
 use mathlib.Core.Bool.{not}
 use native.Mathlib.Omega.{arith}
-use Rattle.marks.specs.Stages.{isClear}
+use Rattle.counting.specs.Search.{isZero}
 use Rattle.marks.proofs.Stretches.{beq-true, beq-false, look-start, look-more}
 use Rattle.marks.proofs.first_from.Statement.{statement}
 use Rattle.marks.proofs.first_from.Tie as tie
 
 abbrev Inv-loop : tie.InvT-loop
-Inv-loop m a b clear k₀ k = (a ≤ k) × (k ≤ b) × ((j : ℕ) → a ≤ j → j < k → isClear m j ≡ not clear)
+Inv-loop m a b clear k₀ k = (a ≤ k) × (k ≤ b) × ((j : ℕ) → a ≤ j → j < k → isZero m j ≡ not clear)
 
 abbrev μ-loop : tie.MeasureT-loop
 μ-loop m a b clear k₀ k = b - k
@@ -25,7 +25,7 @@ element-copy-out-if1 : tie.Need-element-copy-out-if1 Inv-loop μ-loop
 element-copy-out-if1 c = search needs
 
 returns : tie.Need-returns Inv-loop μ-loop
-unfolding isClear
+unfolding isZero
 returns c =
     let l = c .before .before .before .loop in
     record { low = l .inv .0; high = l .inv .1; none = l .inv .2; some = λ h. beq-true _ _ (c .if1 .taken) }
@@ -37,7 +37,7 @@ loop-less : tie.Need-loop-less Inv-loop μ-loop
 loop-less c = search needs
 
 loop-again : tie.Need-loop-again Inv-loop μ-loop
-unfolding isClear
+unfolding isZero
 loop-again c =
     let l = c .before .before .before .loop in
     (omega (arith, l .inv .0), omega arith, look-more (c .before .before .before .before .args .clear) _ _ (l .k) (l .inv .2) (beq-false _ _ (c .if1 .left)))
