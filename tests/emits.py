@@ -387,16 +387,17 @@ def bent(**methods):
     return type('Bent', (Total,), methods)()
 
 
-def limited(**limits):
-    return Total(replace(EmitterLimits(), **limits))
+def limited(model=Total, **limits):
+    return model(replace(EmitterLimits(), **limits))
 
 
-def limit_mutants():
+def limit_mutants(model=Total):
+    """Each limit one lower and one higher."""
     own = {field.name for field in fields(EmitterLimits)} - {field.name for field in fields(Limits)}
     for name in sorted(own | {'scattered_from', 'scattered_step'}):
         value = getattr(EmitterLimits(), name)
         for other in (value - 1, value + 1):
-            yield 'limit %s %d -> %d' % (name, value, other), limited(**{name: other})
+            yield 'limit %s %d -> %d' % (name, value, other), limited(model, **{name: other})
 
 
 def scattered_at(self, at, phase):
@@ -998,17 +999,7 @@ def ground_mutants():
         return Total.refusal(self, plan, given)
     yield 'ground 16 before the plan', bent(refusal=early)
 
-    def handed(self, plan, given):
-        answer = Total.refusal(self, plan, given)
-        return answer and (answer[0], answer[2], answer[1])
-    yield 'number and place exchanged', bent(refusal=handed)
-    for ground in range(1, 16):
-        def other_place(self, plan, given, ground=ground):
-            answer = Total.refusal(self, plan, given)
-            if answer and answer[1] == ground:
-                return (*answer[:2], answer[2] + 1)
-            return answer
-        yield 'place of %d one higher' % ground, bent(refusal=other_place)
+    yield from stored.refusal_mutants(Total, bent)
     for bits in (7, 8, 16):
         yield '%d bits of the phase' % bits, bent(
             refusal=lambda self, plan, given, low=1 << bits: Total.refusal(

@@ -63,7 +63,6 @@ acts answered warming, data, a refusal; the checksum.  If the fresh start was re
 import struct
 import sys
 from array import array
-from dataclasses import fields, replace
 from functools import lru_cache
 from itertools import chain, permutations
 
@@ -73,8 +72,7 @@ import emits
 import receiver
 import stored
 from emits import STORE, SYMBOL, TOP, UNTOUCHED, Generator
-from emitter import Emitter, EmitterLimits, Given
-from model import Limits
+from emitter import Emitter, Given
 from receiver import Receiver
 from stored import PRIME, mix, mix_cells
 
@@ -425,15 +423,6 @@ class Total(emits.Total, Receiver):
 def bent(**methods):
     """A model of which some methods are others."""
     return type('Bent', (Total,), methods)()
-
-
-def limit_mutants():
-    own = {field.name for field in fields(EmitterLimits)} - {field.name for field in fields(Limits)}
-    for name in sorted(own | {'scattered_from', 'scattered_step'}):
-        value = getattr(EmitterLimits(), name)
-        for other in (value - 1, value + 1):
-            yield ('limit %s %d -> %d' % (name, value, other),
-                   Total(replace(EmitterLimits(), **{name: other})))
 
 
 def fresh_mutants():
@@ -792,17 +781,7 @@ def order_mutants():
         self.refusal(plan, Given(phase % 128, store=store))
         or Total.listen(self, plan, phase, store))
 
-    def handed(self, plan, given):
-        answer = Total.refusal(self, plan, given)
-        return answer and (answer[0], answer[2], answer[1])
-    yield 'number and place exchanged', bent(refusal=handed)
-    for ground in range(1, 16):
-        def other_place(self, plan, given, ground=ground):
-            answer = Total.refusal(self, plan, given)
-            if answer and answer[1] == ground:
-                return (*answer[:2], answer[2] + 1)
-            return answer
-        yield 'place of %d one higher' % ground, bent(refusal=other_place)
+    yield from stored.refusal_mutants(Total, bent)
 
 
 def range_mutants():
@@ -993,10 +972,10 @@ def role_mutants():
 
 
 def all_mutants():
-    return chain([('nothing', bent())], *(mutants() for mutants in (
-        limit_mutants, fresh_mutants, delay_mutants, data_mutants, warming_mutants,
-        store_mutants, state_mutants, order_mutants, range_mutants, length_mutants,
-        cell_mutants, role_mutants)))
+    return chain([('nothing', bent())], emits.limit_mutants(Total), *(mutants() for mutants in (
+        fresh_mutants, delay_mutants, data_mutants, warming_mutants, store_mutants,
+        state_mutants, order_mutants, range_mutants, length_mutants, cell_mutants,
+        role_mutants)))
 
 
 def try_mutants(cases, lines):

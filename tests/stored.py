@@ -44,6 +44,22 @@ def mix_cells(total, cells):
 
 # --- bent models -----------------------------------------------------------
 
+def refusal_mutants(model, bent):
+    """Models that say another number or place of a refusal than this one, for grounds 1
+    to 15; bent makes a model of changed methods."""
+    def exchanged(self, plan, given):
+        answer = model.refusal(self, plan, given)
+        return answer and (answer[0], answer[2], answer[1])
+    yield 'number and place exchanged', bent(refusal=exchanged)
+    for ground in range(1, 16):
+        def other_place(self, plan, given, ground=ground):
+            answer = model.refusal(self, plan, given)
+            if answer and answer[1] == ground:
+                return (*answer[:2], answer[2] + 1)
+            return answer
+        yield 'place of %d one higher' % ground, bent(refusal=other_place)
+
+
 def first_change(line_of, cases, lines, model):
     """The name of the first case of which the model gives another line, or None.  A case
     is its name, then what line_of takes after the model."""

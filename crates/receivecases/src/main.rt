@@ -3,9 +3,17 @@
 // data buffer after each receive and of the store at the end. A fresh start that is refused prints `refused`, number, place and the checksum.
 // Standard input holds, for each case, four numbers of four bytes each, high byte first: the plan's length, the starting phase, M times N_I
 // and the number of acts; then the plan, and the acts. tests/receives.py says what the acts are and makes stdin and stdout.
+mod given;
 mod lent;
 mod sums;
 
+use given::Given;
+use given::all_right;
+use given::next_act;
+use given::next_given;
+use given::next_number;
+use given::number_of;
+use given::state_of;
 use lent::at;
 use lent::at_most;
 use lent::bytes_at_most;
@@ -42,41 +50,9 @@ struct Run {
     refused: u32,
 }
 
-// What a receive is given: numbers added to those of the state, how many cells of store, line and data buffer, and two changes of the line, each
-// a place in its upper two bytes and a cell in the lower two.
-struct Given {
-    phase: u32,
-    row: u32,
-    heard: u32,
-    store: u32,
-    symbol: u32,
-    buffer: u32,
-    first: u32,
-    second: u32,
-}
-
 // One more.
 fn more(n: u32) -> u32 {
     std::num::wrapping_add_u32(n, 1)
-}
-
-// The number of four bytes, high byte first.
-fn number_of(a: u8, b: u8, c: u8, d: u8) -> u32 {
-    (a as u32) * 16777216 + (b as u32) * 65536 + (c as u32) * 256 + d as u32
-}
-
-// The next number, read from standard input.
-fn next_number() -> u32 {
-    let mut four = [0u8; 4];
-    io::read_full(0, &mut four);
-    number_of(four[0], four[1], four[2], four[3])
-}
-
-// The next act, read from standard input.
-fn next_act() -> u8 {
-    let mut one = [0u8; 1];
-    io::read_full(0, &mut one);
-    one[0]
 }
 
 // The generator's next number.
@@ -142,43 +118,6 @@ fn flush(run: Run, plan: &[u8], store: &mut [u16], line: &mut [u16]) -> Run {
     let width = at_most(4096, line);
     let answer = emitter::flush(plan, run.emitter, store, &mut line[..width]);
     sent(run, answer)
-}
-
-// What a receive is given where nothing is wrong.
-fn all_right() -> Given {
-    Given {
-        phase: 0,
-        row: 0,
-        heard: 0,
-        store: 120000,
-        symbol: 4096,
-        buffer: 4096,
-        first: 4294967295,
-        second: 4294967295,
-    }
-}
-
-// What a receive is given, read from standard input.
-fn next_given() -> Given {
-    Given {
-        phase: next_number(),
-        row: next_number(),
-        heard: next_number(),
-        store: next_number(),
-        symbol: next_number(),
-        buffer: next_number(),
-        first: next_number(),
-        second: next_number(),
-    }
-}
-
-// The state that a receive is given.
-fn state_of(state: ReceiverState, given: Given) -> ReceiverState {
-    ReceiverState {
-        phase: std::num::wrapping_add_u32(state.phase, given.phase),
-        row: std::num::wrapping_add_u32(state.row, given.row),
-        heard: std::num::wrapping_add_u32(state.heard, given.heard),
-    }
 }
 
 // A receive, lent parts of the cells.

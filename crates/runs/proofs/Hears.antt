@@ -1,7 +1,7 @@
 -- A receive step under an accepted plan: it is accepted exactly if no ground refuses it, and else changes nothing; and what a fresh start leaves. Assumes nothing.
 use Prim.Native.Nat.{ℕ, _*_, _≤_, _<_}
 use mathlib.Core.Path.{_≡_, refl, sym, ap, _∙_}
-use mathlib.Core.Bool.{Bool, true, false, not, _&&_, _||_, false≢true}
+use mathlib.Core.Bool.{Bool, true, false, not, _&&_, _||_}
 use mathlib.Core.List.{List, _∷_}
 use native.Mathlib.Omega.{arith}
 use lib.Dec.{ltb, eqb}
@@ -21,14 +21,14 @@ use Rattle.rules.specs.Plan.{planOf}
 use Rattle.rules.specs.Grounds.{grounds1to15}
 use Rattle.rules.specs.Frame.{Frame, frameOf, cells}
 use Rattle.rules.specs.Store.{fillerStore}
-use Rattle.rules.specs.Steps.{shortStore, startGrounds}
+use Rattle.rules.specs.Steps.{shortStore}
 use Rattle.rules.specs.Receive as receive
 use Rattle.rules.specs.Receive.{Receiver, Arrival, Receiving, Listening, listens, turnedAway, outCount, shortBuffer, receiverGround16, receiverGround17, ground20, receiveGrounds, heardState, heardStore, received, frameReceive, frameListen, hearStep, listenStep}
 use Rattle.plan.proofs.RecordLaws.{both-fine}
 use Rattle.facts.proofs.Accepted.{when-fine}
 use Rattle.frame.proofs.Cells.{length-data}
 use Rattle.runs.specs.Run.{acceptedSteps, afterSteps, isReceived, Told, warming, handed, toldBy, receivings, heard, told, receiverAfter, FreshReceiver}
-use Rattle.runs.proofs.Steps.{by-finding, Startable, startable}
+use Rattle.runs.proofs.Steps.{not-refused}
 
 -- what was stored from the start on is what stands there
 take-sets : (b xs : List ℕ) (n : ℕ) → length xs ≡ n → n ≤ length b → take n (sets b 0 xs) ≡ xs
@@ -135,13 +135,9 @@ isStarted (a-start.Refused n place) = false
 started : (F : Frame) (j : ℕ) (lent : List ℕ) (v : Receiver) → frameListen F j lent ≡ listens (a-start.Started (v .state)) (v .store) → ListensIn F j v
 unfolding frameListen receiverIn isStarted freshReceiver
 started F j lent v s =
-    let leaves : Finding → Listening =
-    λ f. elim f [ Fine ↦ listens (a-start.Started (record { phase = j; row = 0; heard = 0 })) (fillerStore F lent) | Ground n place ↦ listens (a-start.Refused n place) lent ] in
-    by-finding (startGrounds F j lent)
-    (λ h.
-    let t : Startable F j lent = startable F j lent h in
-    record { lent = lent; phase-in = t .phase-in; fits = t .fits; is-fresh = sym (ap (receiverIn v) (sym (ap leaves h) ∙ s)) })
-    (λ n place h. absurd (false≢true (ap (λ (x : Listening). isStarted (x .answer)) (sym (ap leaves h) ∙ s))))
+    let r = not-refused F j lent (listens (a-start.Started (record { phase = j; row = 0; heard = 0 })) (fillerStore F lent)) (λ n place. listens (a-start.Refused n place) lent)
+    (λ (x : Listening). isStarted (x .answer)) (listens (a-start.Started (v .state)) (v .store)) s refl (λ n place. refl) in
+    record { lent = lent; phase-in = r .0 .phase-in; fits = r .0 .fits; is-fresh = sym (ap (receiverIn v) (r .1)) }
 
 -- ---- a plan's bytes that no ground of 1 to 15 refuses
 

@@ -140,6 +140,16 @@ startable F j lent h =
       fits = ltb-false _ _ (when-fine 17 0 _ (both-fine (ground16 F j) long h .1));
     }
 
+-- a fresh start, of an emitter or a receiver, that was not refused: no ground holds, and it left what it makes
+pub not-refused : {T : Type 0} (F : Frame) (j : ℕ) (lent : List ℕ) (made : T) (away : ℕ → ℕ → T) (started : T → Bool) (x : T)
+    → elim (startGrounds F j lent) [ Fine ↦ made | Ground n place ↦ away n place ] ≡ x → started x ≡ true → ((n place : ℕ) → started (away n place) ≡ false)
+    → Startable F j lent × (made ≡ x)
+not-refused {T} F j lent made away started x e was never =
+    let left : Finding → T = λ f. elim f [ Fine ↦ made | Ground n place ↦ away n place ] in
+    by-finding (startGrounds F j lent)
+    (λ h. (startable F j lent h, sym (ap left h) ∙ e))
+    (λ n place h. absurd (false≢true (sym (never n place) ∙ ap started (sym (ap left h) ∙ e) ∙ was)))
+
 -- the emitter that an answer and a store make, u where the answer refuses
 emitterIn : Emitter → Starting → Emitter
 emitterIn u x = elim (x .answer) [ a-start.Started e ↦ record { state = e; store = x .store } | a-start.Refused n place ↦ u ]
@@ -151,13 +161,9 @@ isStarted (a-start.Refused n place) = false
 started : (F : Frame) (j : ℕ) (lent : List ℕ) (e : Emitter) → frameStart F j lent ≡ starts (a-start.Started (e .state)) (e .store) → FreshIn F j e
 unfolding frameStart emitterIn isStarted freshEmitter
 started F j lent e s =
-    let leaves : Finding → Starting =
-    λ f. elim f [ Fine ↦ starts (a-start.Started (record { phase = j; row = 0 })) (freshStore F j lent) | Ground n place ↦ starts (a-start.Refused n place) lent ] in
-    by-finding (startGrounds F j lent)
-    (λ h.
-    let t : Startable F j lent = startable F j lent h in
-    record { lent = lent; phase-in = t .phase-in; fits = t .fits; is-fresh = sym (ap (emitterIn e) (sym (ap leaves h) ∙ s)) })
-    (λ n place h. absurd (false≢true (ap (λ (x : Starting). isStarted (x .answer)) (sym (ap leaves h) ∙ s))))
+    let r = not-refused F j lent (starts (a-start.Started (record { phase = j; row = 0 })) (freshStore F j lent)) (λ n place. starts (a-start.Refused n place) lent)
+    (λ (x : Starting). isStarted (x .answer)) (starts (a-start.Started (e .state)) (e .store)) s refl (λ n place. refl) in
+    record { lent = lent; phase-in = r .0 .phase-in; fits = r .0 .fits; is-fresh = sym (ap (emitterIn e) (r .1)) }
 
 -- ---- a plan's bytes that no ground of 1 to 15 refuses
 
