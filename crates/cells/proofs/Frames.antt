@@ -18,10 +18,11 @@ use Rattle.rules.specs.Device.{phases}
 use Rattle.rules.specs.Fits.{capacity}
 use Rattle.rules.specs.Frame.{Frame, cells, cellRank, carrier, spot, holder, held, isData, dataCount, sentPhase, lineSymbol}
 use Rattle.frame.proofs.House.{houseKey-inj, rank-columns}
-use Rattle.cells.specs.Loops.{stores, rank7, cell7, meets}
+use Rattle.placeholders.specs.Meets.{meets}
+use Rattle.rows.specs.Loops.{stores, rank7, cell7}
 use Rattle.cells.specs.Tied.{Tied, Turning}
-use Rattle.cells.proofs.RowLaws.{below7, cell-below7, rank-cell7}
-use Rattle.cells.proofs.Stores.{length-stores, stores-hit, stores-miss}
+use Rattle.rows.proofs.RowLaws.{below7, cell-below7, rank-cell7}
+use Rattle.rows.proofs.Stores.{length-stores, stores-hit, stores-miss}
 
 -- a frame has no more cells than subcarriers, and no more data cells than cells
 pub cells-le : (F : Frame) → cells F ≤ F .width

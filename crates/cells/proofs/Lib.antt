@@ -1,8 +1,3 @@
-pub mod Walk
-pub mod Residues
-pub mod RowLaws
-pub mod Turns
-pub mod Stores
 pub mod Frames
 pub mod Plans
 pub mod Parts

@@ -1,21 +1,16 @@
 // Cells and subcarriers of an accepted plan: the subcarriers by rank (`car`) and by cell (`kc`), the placeholders of an input symbol
-// (`flag`) and N_D, and the cells of a symbol placed on the line. Cells are read row after row in the order of reversed bits, so that
-// no rank is computed. The entry `data_count` reads the plan bytes anew, changes nothing and asks nothing of its caller.
+// (`flag`) and N_D, and the cells of a symbol placed on the line. The entry `data_count` reads the plan bytes anew, changes nothing and
+// asks nothing of its caller.
 ghost use mathlib.Core.Path.{_≡_};
 ghost use Prim.Native.Nat.{ℕ, _≤_, _<_};
-ghost use lib.Dec.{eqb};
 ghost use lib.ListN.{length, getD, take};
-ghost use Rattle.counting.specs.Search.{bit, count, select, isZero};
+ghost use Rattle.counting.specs.Search.{bit};
 ghost use Rattle.rules.specs.Device.{khz50};
 ghost use Rattle.rules.specs.Plan.{planOf};
 ghost use Rattle.rules.specs.Fits.{Fits};
 ghost use Rattle.rules.specs.Frame.{frameOf, cells, carrier, spot, held, dataCount, lineSymbol};
 ghost use Rattle.rules.specs.Steps.{frameCount, dataCountAnswer};
 ghost use Rattle.judge.specs.Studied.{Studied};
-ghost use Rattle.cells.specs.Loops.{stores, rank7, cell7, meets};
-
-mod rows;
-
 use counting::wide;
 use rules::CountAnswer;
 use rules::Device;
@@ -23,45 +18,6 @@ use rules::Verdict;
 
 // Phases are 0 to 127.
 const PHASES: usize = 128;
-
-// The subcarrier of each cell, from the subcarriers by rank.
-fn cell_carriers(car: &[u16], kc: &mut [u16])
-    requires { ⌜ (length (now kc) ≤ 4096) × (length (now kc) ≤ length (now car)) ⌝ }
-    ensures { λ _. ⌜ ((p : ℕ) → p < length (now (kc .entry)) → getD (now (kc .exit)) p 0 ≡ getD (now (car .entry)) (rank7 (length (now (kc .entry))) p) 0) ⌝ }
-{
-    let ni = kc.len();
-    let mut rank: usize = 0;
-    let mut i: usize = 0;
-    while i < 128 {
-        let mut p = rows::octet(rows::ROWS[i]);
-        while p < ni {
-            kc[p] = car[rank];
-            rank = rank + 1;
-            p = p + 128;
-        }
-        i = i + 1;
-    }
-}
-
-// The cells go to the subcarriers of their ranks.
-fn place_rows(car: &[u16], cells: &[u16], out: &mut [u16])
-    requires { ⌜ (length (now cells) ≤ 4096) × (length (now cells) ≤ length (now car)) × ((r : ℕ) → r < length (now cells) → getD (now car) r 0 < length (now out)) ⌝ }
-    ensures { λ _. ⌜ now (out .exit) ≡ stores (λ r. getD (now (car .entry)) r 0) (λ r. getD (now (cells .entry)) (cell7 (length (now (cells .entry))) r) 0) (length (now (cells .entry))) (now (out .entry)) ⌝ }
-{
-    let ni = cells.len();
-    let mut rank: usize = 0;
-    let mut i: usize = 0;
-    while i < 128 {
-        let mut p = rows::octet(rows::ROWS[i]);
-        while p < ni {
-            let k = wide(car[rank]);
-            out[k] = cells[p];
-            rank = rank + 1;
-            p = p + 128;
-        }
-        i = i + 1;
-    }
-}
 
 // Cells copied over others, as many as there are of those.
 fn copy(from: &[u16], to: &mut [u16])
@@ -76,72 +32,24 @@ fn copy(from: &[u16], to: &mut [u16])
     }
 }
 
-// 1 where the mark is 0.
-fn one_if_zero(x: u16) -> usize
-    ensures { λ r. ⌜ r ≡ bit (eqb x 0) ⌝ }
-{
-    if x == 0 { 1 } else { 0 }
-}
-
-// The subcarriers with a rank in rising order, and their number. Each is stored; the next one takes its place where it has no rank.
-fn carriers(mark: &[u16], width: usize, car: &mut [u16]) -> usize
-    requires { ⌜ (width ≤ 4096) × (width ≤ length (now mark)) × (width ≤ length (now car)) ⌝ }
-    ensures number { λ r. ⌜ r ≡ count (isZero (now (mark .entry))) width ⌝ }
-    ensures listed { λ r. ⌜ ((i : ℕ) → i < r → getD (now (car .exit)) i 0 ≡ select (isZero (now (mark .entry))) width i) ⌝ }
-{
-    let mut n: usize = 0;
-    let mut k: usize = 0;
-    while k < width {
-        car[n] = k as u16;
-        n = n + one_if_zero(mark[k]);
-        k = k + 1;
-    }
-    n
-}
-
-// Flags the cells whose subcarrier is scattered when they are sent, and counts them, one delay after the other. At the symbol's own
-// phase the pattern stands on the subcarriers that are `base` modulo 128.
-fn holders(m: usize, base: usize, kc: &[u16], flag: &mut [u8]) -> usize
-    requires { ⌜ (0 < m) × (m ≤ 4096) × (base ≤ 65535) × (length (now kc) ≤ 4096) × (length (now kc) ≤ length (now flag)) × ((p : ℕ) → p < length (now kc) → getD (now flag) p 0 ≡ 0) ⌝ }
-    ensures flags { λ r. ⌜ ((p : ℕ) → p < length (now (kc .entry)) → getD (now (flag .exit)) p 0 ≡ bit (meets base m (now (kc .entry)) p)) ⌝ }
-    ensures number { λ r. ⌜ r ≡ count (meets base m (now (kc .entry))) (length (now (kc .entry))) ⌝ }
-{
-    let ni = kc.len();
-    let mut n: usize = 0;
-    let mut delay: usize = 0;
-    while delay < m {
-        let want = (base + delay) % PHASES;
-        let mut p = delay;
-        while p < ni {
-            if wide(kc[p]) % PHASES == want {
-                flag[p] = 1;
-                n = n + 1;
-            }
-            p = p + m;
-        }
-        delay = delay + 1;
-    }
-    n
-}
-
 // The subcarriers by rank, and those of the cells.
 pub fn spots(d: Device, plan: &[u8], marks: &[u16; 4096], car: &mut [u16], kc: &mut [u16])
     requires { ⌜ Fits d × Studied d (now plan) (now marks) × (length (now car) ≡ 4096) × (length (now kc) ≡ cells (frameOf d (planOf (now plan)))) ⌝ }
     ensures ranks { λ _. ⌜ ((i : ℕ) → i < length (now (kc .entry)) → getD (now (car .exit)) i 0 ≡ carrier (frameOf d (planOf (now (plan .entry)))) i) ⌝ }
     ensures spots { λ _. ⌜ ((p : ℕ) → p < length (now (kc .entry)) → getD (now (kc .exit)) p 0 ≡ spot (frameOf d (planOf (now (plan .entry)))) p) ⌝ }
 {
-    carriers(marks, d.subcarriers, car);
-    cell_carriers(car, kc);
+    carriers::carriers(marks, d.subcarriers, car);
+    rows::cell_carriers(car, kc);
 }
 
 // The flags of the placeholders of the input symbol at phase j, from the subcarriers of the cells; and N_D.
 pub fn flags_at(d: Device, plan: &[u8], m: usize, j: usize, kc: &[u16], flag: &mut [u8]) -> usize
-    requires { ⌜ Fits d × (8 ≤ length (now plan)) × (planOf (now plan) .plc ≤ d .highPlc) × (m ≡ planOf (now plan) .depth) × (0 < m) × (m ≤ 4096) × (j ≤ 4096) × (length (now kc) ≡ cells (frameOf d (planOf (now plan)))) × ((p : ℕ) → p < length (now kc) → getD (now kc) p 0 ≡ spot (frameOf d (planOf (now plan))) p) × (length (now kc) ≤ length (now flag)) × ((p : ℕ) → p < length (now kc) → getD (now flag) p 0 ≡ 0) ⌝ }
+    requires { ⌜ Fits d × (8 ≤ length (now plan)) × (planOf (now plan) .plc ≤ d .highPlc) × (m ≡ planOf (now plan) .depth) × (0 < m) × (m ≤ 128) × (j ≤ 4096) × (length (now kc) ≡ cells (frameOf d (planOf (now plan)))) × ((p : ℕ) → p < length (now kc) → getD (now kc) p 0 ≡ spot (frameOf d (planOf (now plan))) p) × (length (now kc) ≤ length (now flag)) ⌝ }
     ensures flags { λ r. ⌜ ((p : ℕ) → p < length (now (kc .entry)) → getD (now (flag .exit)) p 0 ≡ bit (held (frameOf d (planOf (now (plan .entry)))) j p)) ⌝ }
     ensures number { λ r. ⌜ r ≡ dataCount (frameOf d (planOf (now (plan .entry)))) j ⌝ }
 {
     let l = plan::number_at(plan, 4);
-    let n = holders(m, l + d.plcWidth + j, kc, flag);
+    let n = placeholders::holders(m, l + d.plcWidth + j, kc, flag);
     kc.len() - n
 }
 
@@ -156,7 +64,7 @@ pub fn prepare(
     kc: &mut [u16],
     flag: &mut [u8],
 ) -> usize
-    requires { ⌜ Fits d × Studied d (now plan) (now marks) × (m ≡ planOf (now plan) .depth) × (0 < m) × (m ≤ 4096) × (j ≤ 4096) × (length (now car) ≡ 4096) × (length (now kc) ≡ cells (frameOf d (planOf (now plan)))) × (length (now kc) ≤ length (now flag)) × ((p : ℕ) → p < length (now kc) → getD (now flag) p 0 ≡ 0) ⌝ }
+    requires { ⌜ Fits d × Studied d (now plan) (now marks) × (m ≡ planOf (now plan) .depth) × (0 < m) × (m ≤ 128) × (j ≤ 4096) × (length (now car) ≡ 4096) × (length (now kc) ≡ cells (frameOf d (planOf (now plan)))) × (length (now kc) ≤ length (now flag)) ⌝ }
     ensures ranks { λ r. ⌜ ((i : ℕ) → i < length (now (kc .entry)) → getD (now (car .exit)) i 0 ≡ carrier (frameOf d (planOf (now (plan .entry)))) i) ⌝ }
     ensures spots { λ r. ⌜ ((p : ℕ) → p < length (now (kc .entry)) → getD (now (kc .exit)) p 0 ≡ spot (frameOf d (planOf (now (plan .entry)))) p) ⌝ }
     ensures flags { λ r. ⌜ ((p : ℕ) → p < length (now (kc .entry)) → getD (now (flag .exit)) p 0 ≡ bit (held (frameOf d (planOf (now (plan .entry)))) j p)) ⌝ }
@@ -172,12 +80,12 @@ pub fn place(d: Device, plan: &[u8], marks: &[u16; 4096], car: &[u16], x: &[u16]
     ensures { λ _. ⌜ now (out .exit) ≡ lineSymbol (frameOf d (planOf (now (plan .entry)))) (now (x .entry)) ⌝ }
 {
     copy(marks, out);
-    place_rows(car, x, out);
+    rows::place_rows(car, x, out);
 }
 
 // N_D of an accepted plan at a phase; ground 16 where it is out of its range.
 fn count_in(d: Device, plan: &[u8], marks: &[u16; 4096], ni: usize, phase: u32) -> CountAnswer
-    requires { ⌜ Fits d × Studied d (now plan) (now marks) × (0 < planOf (now plan) .depth) × (planOf (now plan) .depth ≤ 4096) × (ni ≡ cells (frameOf d (planOf (now plan)))) ⌝ }
+    requires { ⌜ Fits d × Studied d (now plan) (now marks) × (0 < planOf (now plan) .depth) × (planOf (now plan) .depth ≤ 128) × (ni ≡ cells (frameOf d (planOf (now plan)))) ⌝ }
     ensures { λ r. ⌜ r ≡ frameCount (frameOf d (planOf (now (plan .entry)))) phase ⌝ }
 {
     let j = phase as usize;

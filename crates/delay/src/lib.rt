@@ -29,7 +29,7 @@ pub fn next_row(r: usize, m: usize) -> usize
 }
 
 // The row before r, of m rows in a ring.
-fn row_before(r: usize, m: usize) -> usize
+pub fn row_before(r: usize, m: usize) -> usize
     requires { ⌜ (r < m) × (m ≤ 4096) ⌝ }
     ensures { λ x. ⌜ x ≡ (r + (m - 1)) % m ⌝ }
 {

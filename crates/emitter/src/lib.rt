@@ -1,33 +1,23 @@
 // The emitter: an emit step and a flush step. The entries `emit` and `flush` read the plan bytes anew and ask nothing of their caller; what
 // they refuse, they leave as it was.
 ghost use mathlib.Core.Path.{_≡_};
-ghost use Prim.Native.Nat.{ℕ, _+_, _*_, _%_, _≤_, _<_};
+ghost use Prim.Native.Nat.{ℕ, _*_, _%_, _≤_, _<_};
 ghost use lib.ListN.{length, getD};
-ghost use Rattle.rules.specs.Device.{phases, khz50};
+ghost use Rattle.rules.specs.Device.{khz50};
 ghost use Rattle.rules.specs.Fits.{Fits};
 ghost use Rattle.rules.specs.Plan.{planOf};
 ghost use Rattle.rules.specs.Frame.{frameOf, cells, carrier, lineSymbol};
-ghost use Rattle.rules.specs.Store.{putRow, nextRow, delayed};
+ghost use Rattle.rules.specs.Store.{putRow, delayed};
 ghost use Rattle.rules.specs.Steps.{leaves, emitStep, flushStep};
 ghost use Rattle.judge.specs.Studied.{Studied};
 ghost use Rattle.steps.specs.Ready.{Ready};
-use counting::Found;
+ghost use Rattle.sending.specs.Sent.{stepBy};
+use rules::CountAnswer;
 use rules::Device;
 use rules::EmitterState;
 use rules::Finding;
 use rules::SendAnswer;
 use rules::Verdict;
-
-// The state of the next step: phase and row go up by one.
-fn next_state(m: usize, state: EmitterState) -> EmitterState
-    requires { ⌜ (state .phase < phases) × (state .row < m) × (m ≤ 4096) ⌝ }
-    ensures { λ r. ⌜ r ≡ record { phase = (state .phase + 1) % phases; row = nextRow m (state .row) } ⌝ }
-{
-    EmitterState {
-        phase: steps::next_phase(state.phase),
-        row: steps::next_row(state.row, m),
-    }
-}
 
 // The input symbol x goes into its row of the store, and the delayed cells go out on their subcarriers.
 fn send_out(
@@ -49,12 +39,13 @@ fn send_out(
     cells::place(d, plan, marks, car, x, out);
 }
 
-// An emit step under an accepted plan. The arrays are lent: car, the subcarriers by rank, has 4,096 places; kc, the subcarriers by cell,
-// flag, the flags of the placeholders, and x, the input symbol, have N_I, and the flags are 0.
-fn emit_in(
+// An emit or flush step under an accepted plan. The arrays are lent: car, the subcarriers by rank, has 4,096 places; kc, the subcarriers by
+// cell, flag, the flags of the placeholders, and x, the input symbol, have N_I.
+fn send_in(
     d: Device,
     plan: &[u8],
     marks: &[u16; 4096],
+    flushing: bool,
     state: EmitterState,
     store: &mut [u16],
     input: &[u16],
@@ -64,80 +55,49 @@ fn emit_in(
     flag: &mut [u8],
     x: &mut [u16],
 ) -> SendAnswer
-    requires { ⌜ Ready d (now plan) (length (now x)) (now marks) × (length (now car) ≡ 4096) × (length (now kc) ≡ length (now x)) × (length (now flag) ≡ length (now x)) × ((p : ℕ) → p < length (now x) → getD (now flag) p 0 ≡ 0) ⌝ }
-    ensures { λ r. ⌜ leaves r (now (store .exit)) (now (out .exit)) ≡ emitStep d (now (plan .entry)) state (now (store .entry)) (now (input .entry)) (now (out .entry)) ⌝ }
+    requires { ⌜ Ready d (now plan) (length (now x)) (now marks) × (length (now car) ≡ 4096) × (length (now kc) ≡ length (now x)) × (length (now flag) ≡ length (now x)) ⌝ }
+    ensures { λ r. ⌜ leaves r (now (store .exit)) (now (out .exit)) ≡ stepBy d (now (plan .entry)) flushing state (now (store .entry)) (now (input .entry)) (now (out .entry)) ⌝ }
 {
     let m = plan::number_at(plan, 6);
-    if let Finding::Ground(g, place) = steps::lent_grounds(
+    let j = state.phase as usize;
+    match steps::ready(
         d,
         plan,
+        marks,
         m,
-        x.len(),
         state.phase,
         state.row,
-        store,
-        out,
+        store.len(),
+        out.len(),
+        j,
+        car,
+        kc,
+        flag,
     ) {
-        return SendAnswer::Refused(g, place, state);
+        CountAnswer::Refused(g, place) => SendAnswer::Refused(g, place, state),
+        CountAnswer::Count(n) => {
+            let nd = n as usize;
+            let found = sending::fill_in(d, plan, j, flushing, nd, flag, input, x);
+            if let Finding::Ground(g, place) = found {
+                return SendAnswer::Refused(g, place, state);
+            }
+            let row = state.row as usize;
+            send_out(d, plan, marks, m, row, car, store, x, out);
+            SendAnswer::Sent(sending::next_state(m, state))
+        }
     }
-    let next = next_state(m, state);
-    let nd = cells::prepare(d, plan, marks, m, state.phase as usize, car, kc, flag);
-    if input.len() != nd {
-        return SendAnswer::Refused(18, 0, state);
-    }
-    if let Found::At(i) = fill::first_over(input) {
-        return SendAnswer::Refused(19, i, state);
-    }
-    fill::fill_data(x, flag, input);
-    send_out(d, plan, marks, m, state.row as usize, car, store, x, out);
-    SendAnswer::Sent(next)
 }
 
-// A flush step under an accepted plan, with arrays as for an emit step.
-fn flush_in(
-    d: Device,
+// An emit or flush step; a flush reads no input.
+fn send(
     plan: &[u8],
-    marks: &[u16; 4096],
-    state: EmitterState,
-    store: &mut [u16],
-    out: &mut [u16],
-    car: &mut [u16],
-    kc: &mut [u16],
-    flag: &mut [u8],
-    x: &mut [u16],
-) -> SendAnswer
-    requires { ⌜ Ready d (now plan) (length (now x)) (now marks) × (length (now car) ≡ 4096) × (length (now kc) ≡ length (now x)) × (length (now flag) ≡ length (now x)) × ((p : ℕ) → p < length (now x) → getD (now flag) p 0 ≡ 0) ⌝ }
-    ensures { λ r. ⌜ leaves r (now (store .exit)) (now (out .exit)) ≡ flushStep d (now (plan .entry)) state (now (store .entry)) (now (out .entry)) ⌝ }
-{
-    let m = plan::number_at(plan, 6);
-    if let Finding::Ground(g, place) = steps::lent_grounds(
-        d,
-        plan,
-        m,
-        x.len(),
-        state.phase,
-        state.row,
-        store,
-        out,
-    ) {
-        return SendAnswer::Refused(g, place, state);
-    }
-    let next = next_state(m, state);
-    cells::prepare(d, plan, marks, m, state.phase as usize, car, kc, flag);
-    fill::fill_filler(x, flag);
-    send_out(d, plan, marks, m, state.row as usize, car, store, x, out);
-    SendAnswer::Sent(next)
-}
-
-// An emit step: the input goes into the current row as an input symbol, and one symbol on the line is sent.
-pub fn emit(
-    plan: &[u8],
+    flushing: bool,
     state: EmitterState,
     store: &mut [u16],
     input: &[u16],
     symbol: &mut [u16],
 ) -> SendAnswer
-    ensures { λ r. ⌜ leaves r (now (store .exit)) (now (symbol .exit)) ≡ emitStep khz50 (now (plan .entry)) state (now (store .entry)) (now (input .entry)) (now (symbol .entry)) ⌝ }
+    ensures { λ r. ⌜ leaves r (now (store .exit)) (now (symbol .exit)) ≡ stepBy khz50 (now (plan .entry)) flushing state (now (store .entry)) (now (input .entry)) (now (symbol .entry)) ⌝ }
 {
     let d = rules::khz50_device();
     let mut marks = [0u16; 4096];
@@ -149,10 +109,11 @@ pub fn emit(
             let mut kc = [0u16; 4096];
             let mut flag = [0u8; 4096];
             let mut x = [0u16; 4096];
-            emit_in(
+            send_in(
                 d,
                 plan,
                 &marks,
+                flushing,
                 state,
                 store,
                 input,
@@ -166,32 +127,23 @@ pub fn emit(
     }
 }
 
+// An emit step: the input goes into the current row as an input symbol, and one symbol on the line is sent.
+pub fn emit(
+    plan: &[u8],
+    state: EmitterState,
+    store: &mut [u16],
+    input: &[u16],
+    symbol: &mut [u16],
+) -> SendAnswer
+    ensures { λ r. ⌜ leaves r (now (store .exit)) (now (symbol .exit)) ≡ emitStep khz50 (now (plan .entry)) state (now (store .entry)) (now (input .entry)) (now (symbol .entry)) ⌝ }
+{
+    send(plan, false, state, store, input, symbol)
+}
+
 // A flush step: the same with filler in every data cell.
 pub fn flush(plan: &[u8], state: EmitterState, store: &mut [u16], symbol: &mut [u16]) -> SendAnswer
     ensures { λ r. ⌜ leaves r (now (store .exit)) (now (symbol .exit)) ≡ flushStep khz50 (now (plan .entry)) state (now (store .entry)) (now (symbol .entry)) ⌝ }
 {
-    let d = rules::khz50_device();
-    let mut marks = [0u16; 4096];
-    match judge::study(d, plan, &mut marks) {
-        Verdict::Refused(g, place) => SendAnswer::Refused(g, place, state),
-        Verdict::Accepted(n) => {
-            let ni = n as usize;
-            let mut car = [0u16; 4096];
-            let mut kc = [0u16; 4096];
-            let mut flag = [0u8; 4096];
-            let mut x = [0u16; 4096];
-            flush_in(
-                d,
-                plan,
-                &marks,
-                state,
-                store,
-                symbol,
-                &mut car,
-                &mut kc[..ni],
-                &mut flag[..ni],
-                &mut x[..ni],
-            )
-        }
-    }
+    let none = [0u16; 1];
+    send(plan, true, state, store, &none[..0], symbol)
 }

@@ -1,16 +1,35 @@
 -- How a fresh store is filled: with one number, cell after cell, and an emitter's row after row. Assumes nothing.
 use mathlib.Core.Path.{_≡_, refl, sym, ap, _∙_}
 use mathlib.Core.List.{List, [], _∷_, _++_}
-use Prim.Native.Nat.{ℕ, zero, suc, _+_, _-_, _*_, _/_, _%_, _<_}
+use Prim.Native.Nat.{ℕ, zero, suc, _+_, _-_, _*_, _/_, _%_, _≤_, _<_}
 use native.Mathlib.Nat.{add-zero, add-suc, suc-add, zero-add, zero-mul, suc-mul, mul-add-div-right, mul-add-mod-self-right, div-eq-of-lt, mod-eq-of-lt}
+use native.Mathlib.Numerals.{add-one}
 use native.Mathlib.Omega.{arith}
 use lib.ListN.{length, getD, set, take, replicate, length-replicate, getD-replicate}
 use lib.Seq.{sets}
 use Rattle.counting.specs.Search.{tabulate}
 use Rattle.counting.proofs.Lists.{length-tabulate, is-tabulate, tabulate-cong, sets-snoc}
-use Rattle.rules.specs.Frame.{Frame, cells, flush, inputCells, phaseBack, filler}
+use Rattle.rules.specs.declared.Device.{Device}
+use Rattle.rules.specs.Plan.{planOf}
+use Rattle.rules.specs.Frame.{Frame, frameOf, cells, spot, flush, inputCells, phaseBack, filler}
 use Rattle.rules.specs.Store.{freshCell, freshStore, fillerStore}
 use Rattle.frame.proofs.Cells.{length-input}
+use Rattle.steps.specs.Ready.{Ready}
+use Rattle.fresh.specs.Spotted.{Spotted}
+
+-- what the rows are made from, once kc holds the subcarriers of the cells of an accepted plan of depth m
+pub spotted : (d : Device) (s : List ℕ) (n m : ℕ) (marks kc : List ℕ) → Ready d s n marks → m ≡ planOf s .depth → length kc ≡ n
+    → ((p : ℕ) → p < n → getD kc p 0 ≡ spot (frameOf d (planOf s)) p) → Spotted d s m kc
+spotted d s n m marks kc r em en made = record {
+  fits = r .fits;
+  long = r .studied .long;
+  plcHigh = r .studied .plcHigh;
+  depth = em;
+  deep = omega (arith, em, r .deep);
+  shallow = omega (arith, em, r .shallow);
+  all = en ∙ r .all;
+  spots = λ p h. made p (omega (arith, h, en));
+}
 
 -- one more cell of the number v
 pub same-next : (s : List ℕ) (n v i : ℕ) → i < n → set (sets s 0 (take i (replicate n v))) i v ≡ sets s 0 (take (suc i) (replicate n v))
@@ -61,19 +80,27 @@ module _ (F : Frame) (j : ℕ) (s : List ℕ) where
       ∙ ap (sets s 0) (sym (tabulate-add flat (i * cells F) (cells F)) ∙ ap (tabulate flat) (sym (suc-mul i (cells F))))
 
   -- row 0 is filler
-  pub first-row : sets s 0 (replicate (cells F) filler) ≡ madeRows 1
+  first-made : sets s 0 (replicate (cells F) filler) ≡ madeRows 1
   unfolding madeRows freshCell tabulate
-  first-row =
+  first-made =
       (λ i. sets (sets s 0 (tabulate flat (sym (zero-mul (cells F)) i))) (sym (zero-mul (cells F)) i) (replicate (cells F) filler))
       ∙ made-next 0 (replicate (cells F) filler) (length-replicate (cells F) filler) (λ p l. getD-replicate (cells F) p filler 0 l)
 
   -- row i from 1 on is the flush at the phase of M - i symbols back
-  pub next-row : (i : ℕ) → 0 < i → sets (madeRows i) (i * cells F) (inputCells F (phaseBack F j (F .depth - i)) flush) ≡ madeRows (suc i)
+  row-made : (i : ℕ) → 0 < i → sets (madeRows i) (i * cells F) (inputCells F (phaseBack F j (F .depth - i)) flush) ≡ madeRows (suc i)
   unfolding freshCell
-  next-row zero h = absurd (omega arith)
-  next-row (suc i) h = made-next (suc i) (inputCells F (phaseBack F j (F .depth - suc i)) flush) (length-input F (phaseBack F j (F .depth - suc i)) flush) (λ p l. refl)
+  row-made zero h = absurd (omega arith)
+  row-made (suc i) h = made-next (suc i) (inputCells F (phaseBack F j (F .depth - suc i)) flush) (length-input F (phaseBack F j (F .depth - suc i)) flush) (λ p l. refl)
 
-  -- all rows made
-  pub all-rows : madeRows (F .depth) ≡ freshStore F j s
+  -- ---- for loops that make m rows of n cells, one after the other
+
+  pub first-row : (n : ℕ) → n ≡ cells F → sets s 0 (replicate n filler) ≡ madeRows 1
+  first-row n en = ap (λ (k : ℕ). sets s 0 (replicate k filler)) en ∙ first-made
+
+  pub next-row : (m n i : ℕ) → m ≡ F .depth → n ≡ cells F → 0 < i → sets (madeRows i) (i * n) (inputCells F (phaseBack F j (m - i)) flush) ≡ madeRows (i + 1)
+  next-row m n i em en h =
+      (λ k. sets (madeRows i) (i * en k) (inputCells F (phaseBack F j (em k - i)) flush)) ∙ row-made i h ∙ ap madeRows (sym (add-one i))
+
+  pub all-rows : (i m : ℕ) → m ≡ F .depth → i ≤ m → m ≤ i → madeRows i ≡ freshStore F j s
   unfolding madeRows freshStore flat
-  all-rows = refl
+  all-rows i m em lo hi = ap madeRows (let e : i ≡ F .depth = omega arith in e)

@@ -1,7 +1,8 @@
 // Fresh starts: an emitter's store holds the flushes that would have come before its first step, a receiver's is all filler. The entries
 // `fresh_emitter` and `fresh_receiver` read the plan bytes anew and ask nothing of their caller; what they refuse, they leave as it was.
 ghost use mathlib.Core.Path.{_≡_};
-ghost use Prim.Native.Nat.{_+_, _*_, _≤_, _<_};
+ghost use mathlib.Core.List.{List};
+ghost use Prim.Native.Nat.{ℕ, _+_, _*_, _≤_, _<_};
 ghost use lib.ListN.{length, replicate};
 ghost use lib.Seq.{sets};
 ghost use Rattle.rules.specs.declared.Finding.the-variants.{Fine};
@@ -28,15 +29,22 @@ const PHASES: usize = 128;
 // The mark of filler.
 const FILLER: u16 = 0x8001;
 
-// The grounds of a fresh start, of an emitter or a receiver, for depth m and ni cells.
-fn start_grounds(d: Device, plan: &[u8], m: usize, ni: usize, phase: u32, store: &[u16]) -> Finding
+// The grounds of a fresh start, of an emitter or a receiver, for depth m, ni cells and a store of so many places.
+pub fn start_grounds(
+    d: Device,
+    plan: &[u8],
+    m: usize,
+    ni: usize,
+    phase: u32,
+    places: usize,
+) -> Finding
     requires { ⌜ (m ≡ planOf (now plan) .depth) × (ni ≡ cells (frameOf d (planOf (now plan)))) × (m < 65536) × (ni ≤ 4096) ⌝ }
-    ensures { λ r. ⌜ r ≡ startGrounds (frameOf d (planOf (now (plan .entry)))) phase (now (store .entry)) ⌝ }
+    ensures { λ r. ⌜ ((s : List ℕ) → length s ≡ places → r ≡ startGrounds (frameOf d (planOf (now (plan .entry)))) phase s) ⌝ }
 {
     if PHASES <= phase as usize {
         return Finding::Ground(16, 0);
     }
-    if store.len() < m * ni {
+    if places < m * ni {
         return Finding::Ground(17, 0);
     }
     Finding::Fine
@@ -54,15 +62,23 @@ fn put_filler(store: &mut [u16], n: usize)
     }
 }
 
-// The row of a fresh store that begins at place `at`: the flush at phase j, from the subcarriers of the cells.
+// The input symbol of a flush at phase j, from the subcarriers of the cells.
+pub fn flush_cells(d: Device, plan: &[u8], m: usize, j: usize, kc: &[u16], row: &mut [u16])
+    requires { ⌜ Spotted d (now plan) m (now kc) × (j ≤ 4096) × (length (now row) ≡ length (now kc)) ⌝ }
+    ensures { λ _. ⌜ now (row .exit) ≡ inputCells (frameOf d (planOf (now (plan .entry)))) j flush ⌝ }
+{
+    let mut flag = [0u8; 4096];
+    cells::flags_at(d, plan, m, j, kc, &mut flag);
+    fill::fill_filler(row, &flag);
+}
+
+// The row of a fresh store that begins at place `at`: the flush at phase j.
 fn fresh_row(d: Device, plan: &[u8], m: usize, j: usize, kc: &[u16], at: usize, store: &mut [u16])
     requires { ⌜ Spotted d (now plan) m (now kc) × (j ≤ 4096) × (at + length (now kc) ≤ length (now store)) ⌝ }
     ensures { λ _. ⌜ now (store .exit) ≡ sets (now (store .entry)) at (inputCells (frameOf d (planOf (now (plan .entry)))) j flush) ⌝ }
 {
-    let mut flag = [0u8; 4096];
-    cells::flags_at(d, plan, m, j, kc, &mut flag);
     let end = at + kc.len();
-    fill::fill_filler(&mut store[at..end], &flag);
+    flush_cells(d, plan, m, j, kc, &mut store[at..end]);
 }
 
 // The rows of a fresh store: row 0 is filler, row i the flush of m - i symbols back.
@@ -95,7 +111,7 @@ fn start_in(
     ensures { λ r. ⌜ starts r (now (store .exit)) ≡ startStep d (now (plan .entry)) phase (now (store .entry)) ⌝ }
 {
     let m = plan::number_at(plan, 6);
-    if let Finding::Ground(g, place) = start_grounds(d, plan, m, kc.len(), phase, store) {
+    if let Finding::Ground(g, place) = start_grounds(d, plan, m, kc.len(), phase, store.len()) {
         return StartAnswer::Refused(g, place);
     }
     cells::spots(d, plan, marks, car, kc);
@@ -126,7 +142,7 @@ fn listen_in(d: Device, plan: &[u8], ni: usize, phase: u32, store: &mut [u16]) -
     ensures { λ r. ⌜ listens r (now (store .exit)) ≡ listenStep d (now (plan .entry)) phase (now (store .entry)) ⌝ }
 {
     let m = plan::number_at(plan, 6);
-    if let Finding::Ground(g, place) = start_grounds(d, plan, m, ni, phase, store) {
+    if let Finding::Ground(g, place) = start_grounds(d, plan, m, ni, phase, store.len()) {
         return ListenAnswer::Refused(g, place);
     }
     let need = m * ni;

@@ -1,81 +1,25 @@
 // The receiver: a receive step. The entry `receive` reads the plan bytes anew and asks nothing of its caller; what it refuses, it leaves as
 // it was.
 ghost use mathlib.Core.Path.{_≡_};
-ghost use mathlib.Core.Bool.{not, _&&_};
 ghost use Prim.Native.Nat.{ℕ, _+_, _-_, _*_, _%_, _≤_, _<_};
-ghost use lib.Dec.{ltb};
 ghost use lib.ListN.{length, getD};
 ghost use lib.Seq.{sets};
-ghost use Rattle.counting.specs.Search.{pick, count, isZero};
-ghost use Rattle.rules.specs.Device.{phases, khz50};
+ghost use Rattle.counting.specs.Search.{count, isZero};
+ghost use Rattle.rules.specs.Device.{khz50};
 ghost use Rattle.rules.specs.Fits.{Fits};
 ghost use Rattle.rules.specs.Plan.{planOf};
 ghost use Rattle.rules.specs.Frame.{frameOf, cells, spot, lineCells};
-ghost use Rattle.rules.specs.Store.{putRow, nextRow, delayed};
+ghost use Rattle.rules.specs.Store.{putRow, delayed};
 ghost use Rattle.rules.specs.Receive.{hears, outPhase, received, receiveStep};
 ghost use Rattle.fill.specs.Flags.{Flagged, takenData};
 ghost use Rattle.steps.specs.Ready.{Ready};
-ghost use Rattle.receiver.specs.Admitted.{Admitted};
+ghost use Rattle.receiving.specs.Admitted.{Admitted};
 use counting::Found;
+use rules::CountAnswer;
 use rules::Device;
-use rules::Finding;
 use rules::ReceiveAnswer;
 use rules::ReceiverState;
 use rules::Verdict;
-
-// Phases are 0 to 127.
-const PHASES: usize = 128;
-
-// The phase of the input symbol that is handed out, m - 1 symbols back.
-fn out_phase(j: usize, m: usize) -> usize
-    requires { ⌜ (j < phases) × (0 < m) × (m ≤ phases) ⌝ }
-    ensures { λ r. ⌜ r ≡ (j + (phases - (m - 1))) % phases ⌝ }
-{
-    let back = m - 1;
-    (j + (PHASES - back)) % PHASES
-}
-
-// Warming: fewer than m - 1 symbols were heard.
-fn warms(heard: u32, m: usize) -> bool
-    requires { ⌜ 0 < m ⌝ }
-    ensures { λ r. ⌜ r ≡ ltb heard (m - 1) ⌝ }
-{
-    (heard as usize) < m - 1
-}
-
-// Whether a buffer of so many places is too short for nd data cells. While warming none are written.
-fn lacks(heard: u32, m: usize, nd: usize, places: usize) -> bool
-    requires { ⌜ 0 < m ⌝ }
-    ensures { λ r. ⌜ r ≡ (not (ltb heard (m - 1)) && ltb places nd) ⌝ }
-{
-    if warms(heard, m) {
-        return false;
-    }
-    places < nd
-}
-
-// The symbols heard after this one: one more while warming.
-fn next_heard(heard: u32, m: usize) -> u32
-    requires { ⌜ (0 < m) × (m ≤ 4096) ⌝ }
-    ensures { λ r. ⌜ r ≡ pick (ltb heard (m - 1)) (heard + 1) heard ⌝ }
-{
-    if warms(heard, m) {
-        return heard + 1;
-    }
-    heard
-}
-
-// The state of the next step: phase and row go up by one, heard while warming.
-fn next_state(m: usize, state: ReceiverState) -> ReceiverState
-    requires { ⌜ (state .phase < phases) × (state .row < m) × (m ≤ 4096) ⌝ }
-    ensures { λ r. ⌜ r ≡ record { phase = (state .phase + 1) % phases; row = nextRow m (state .row); heard = pick (ltb (state .heard) (m - 1)) (state .heard + 1) (state .heard) } ⌝ }
-{
-    ReceiverState {
-        phase: steps::next_phase(state.phase),
-        row: steps::next_row(state.row, m),
-        heard: next_heard(state.heard, m),
-    }
-}
 
 // The arriving cells go into the row in cell order.
 fn take_in(
@@ -110,7 +54,7 @@ fn hear(
     d: Device,
     plan: &[u8],
     m: usize,
-    nd: usize,
+    nd: u32,
     state: ReceiverState,
     kc: &[u16],
     flag: &[u8],
@@ -124,16 +68,16 @@ fn hear(
 {
     let row = state.row as usize;
     take_in(d, plan, m, row, kc, symbol, store);
-    let next = next_state(m, state);
-    if warms(state.heard, m) {
+    let next = receiving::next_state(m, state);
+    if receiving::warms(state.heard, m) {
         return ReceiveAnswer::Warming(next);
     }
     hand_out(m, row, store, flag, x, buffer);
-    ReceiveAnswer::Data(next, nd as u32)
+    ReceiveAnswer::Data(next, nd)
 }
 
 // A receive step under an accepted plan, whose marks are used up. The arrays are lent: car, the subcarriers by rank, has 4,096 places; kc,
-// the subcarriers by cell, flag, the flags of the placeholders, and x, the cells of a symbol, have N_I, and the flags are 0.
+// the subcarriers by cell, flag, the flags of the placeholders, and x, the cells of a symbol, have N_I.
 fn receive_in(
     d: Device,
     plan: &[u8],
@@ -147,35 +91,32 @@ fn receive_in(
     flag: &mut [u8],
     x: &mut [u16],
 ) -> ReceiveAnswer
-    requires { ⌜ Ready d (now plan) (length (now x)) (now marks) × (length (now car) ≡ 4096) × (length (now kc) ≡ length (now x)) × (length (now flag) ≡ length (now x)) × ((p : ℕ) → p < length (now x) → getD (now flag) p 0 ≡ 0) ⌝ }
+    requires { ⌜ Ready d (now plan) (length (now kc)) (now marks) × (length (now car) ≡ 4096) × (length (now flag) ≡ length (now kc)) × (length (now x) ≡ length (now kc)) ⌝ }
     ensures { λ r. ⌜ hears r (now (store .exit)) (now (buffer .exit)) ≡ receiveStep d (now (plan .entry)) state (now (store .entry)) (now (symbol .entry)) (now (buffer .entry)) ⌝ }
 {
     let m = plan::number_at(plan, 6);
-    if m <= state.heard as usize {
-        return ReceiveAnswer::Refused(16, 0, state);
-    }
-    if let Finding::Ground(g, place) = steps::lent_grounds(
+    match receiving::ready(
         d,
         plan,
+        marks,
         m,
-        x.len(),
-        state.phase,
-        state.row,
-        store,
-        symbol,
+        state,
+        store.len(),
+        symbol.len(),
+        buffer.len(),
+        car,
+        kc,
+        flag,
     ) {
-        return ReceiveAnswer::Refused(g, place, state);
+        CountAnswer::Refused(g, place) => ReceiveAnswer::Refused(g, place, state),
+        CountAnswer::Count(nd) => {
+            let j = state.phase as usize;
+            if let Found::At(k) = arrivals::wrong_cell(d, plan, marks, j, symbol) {
+                return ReceiveAnswer::Refused(20, k, state);
+            }
+            hear(d, plan, m, nd, state, kc, flag, symbol, store, x, buffer)
+        }
     }
-    let j = state.phase as usize;
-    let back = out_phase(j, m);
-    let nd = cells::prepare(d, plan, marks, m, back, car, kc, flag);
-    if lacks(state.heard, m, nd, buffer.len()) {
-        return ReceiveAnswer::Refused(17, 0, state);
-    }
-    if let Found::At(k) = arrivals::wrong_cell(d, plan, marks, j, symbol) {
-        return ReceiveAnswer::Refused(20, k, state);
-    }
-    hear(d, plan, m, nd, state, kc, flag, symbol, store, x, buffer)
 }
 
 // A receive step: the arriving cells go into the current row, and the data of the input symbol M - 1 steps back is handed out.

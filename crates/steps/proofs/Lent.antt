@@ -1,5 +1,5 @@
 -- Grounds 16 and 17 of what every step is given: phase, row, store and symbol. Assumes nothing.
-use mathlib.Core.Path.{_≡_, sym, ap, _∙_}
+use mathlib.Core.Path.{_≡_, refl, sym, ap, _∙_}
 use mathlib.Core.Logic.{⊎-elim}
 use mathlib.Core.Bool.{Bool, not, _||_}
 use mathlib.Core.List.{List}
@@ -13,8 +13,11 @@ use Rattle.counting.proofs.Bools.{or-true, decide, decide-eq}
 use Rattle.rules.specs.declared.Finding.{Finding}
 use Rattle.rules.specs.declared.Finding.the-variants.{Fine, Ground}
 use Rattle.rules.specs.Grounds.{_else_, ground?}
-use Rattle.rules.specs.Frame.{Frame, cells}
+use Rattle.rules.specs.declared.CountAnswer.{CountAnswer}
+use Rattle.rules.specs.declared.CountAnswer.the-variants.{Count, Refused}
+use Rattle.rules.specs.Frame.{Frame, cells, dataCount}
 use Rattle.rules.specs.Steps.{stateGround16, shortStore, ground17}
+use Rattle.steps.specs.Ready.{readyAnswer}
 
 module _ (F : Frame) (j r : ℕ) (s room : List ℕ) where
   -- the two as functions of their tests
@@ -56,7 +59,8 @@ pub record Lent (F : Frame) (j r : ℕ) (s room : List ℕ) : Type 0 where
   pub rows-fit : F .depth * cells F ≤ length s
   pub whole : length room ≡ F .width
 
-no-ground : (n place : ℕ) (f : Finding) → Ground n place ≡ f → Fine ≡ f → ⊥
+-- a finding is not both a ground and none
+pub no-ground : (n place : ℕ) (f : Finding) → Ground n place ≡ f → Fine ≡ f → ⊥
 no-ground n place f g h = let z : _≡_ {A = ℕ} 0 1 = cc in absurd (omega arith)
 
 module _ (F : Frame) (j r : ℕ) (s room : List ℕ) (ok : Fine ≡ (stateGround16 F j r else ground17 F s room)) where
@@ -74,3 +78,34 @@ module _ (F : Frame) (j r : ℕ) (s room : List ℕ) (ok : Fine ≡ (stateGround
         rows-fit = hs;
         whole = ⊎-elim (λ l. l .0) (λ l. absurd (kept 17 0 (bad-room F j r s room hp hr hs (l .0)))) (decide-eq (length room) (F .width));
       }
+
+-- an answer as a function of the finding, with the count k where there is none
+abbrev pub told : ℕ → Finding → CountAnswer
+told k f = elim f [ Fine ↦ Count k | Ground n place ↦ Refused n place ]
+
+-- a finding told as a count is none, told as a refusal is that ground
+pub told-count : (k n : ℕ) (f : Finding) → Count n ≡ told k f → (Fine ≡ f) × (n ≡ k)
+told-count k n Fine e = (refl, cc)
+told-count k n (Ground g place) e = let z : _≡_ {A = ℕ} 0 1 = cc in absurd (omega arith)
+
+pub told-refused : (k n place : ℕ) (f : Finding) → Refused n place ≡ told k f → Ground n place ≡ f
+told-refused k n place Fine e = let z : _≡_ {A = ℕ} 0 1 = cc in absurd (omega arith)
+told-refused k n place (Ground g at) e = cc
+
+-- what the answer of grounds 16 and 17 tells
+module _ (F : Frame) (phase row : ℕ) (s y : List ℕ) (j : ℕ) where
+  pub ready-count : (n : ℕ) → Count n ≡ readyAnswer F phase row s y j → (Fine ≡ (stateGround16 F phase row else ground17 F s y)) × (n ≡ dataCount F j)
+  unfolding readyAnswer
+  ready-count n e = told-count (dataCount F j) n (stateGround16 F phase row else ground17 F s y) e
+
+  pub ready-refused : (n place : ℕ) → Refused n place ≡ readyAnswer F phase row s y j → Ground n place ≡ (stateGround16 F phase row else ground17 F s y)
+  unfolding readyAnswer
+  ready-refused n place e = told-refused (dataCount F j) n place (stateGround16 F phase row else ground17 F s y) e
+
+  pub count-ready : Fine ≡ (stateGround16 F phase row else ground17 F s y) → Count (dataCount F j) ≡ readyAnswer F phase row s y j
+  unfolding readyAnswer
+  count-ready h = ap (told (dataCount F j)) h
+
+  pub refused-ready : (n place : ℕ) → Ground n place ≡ (stateGround16 F phase row else ground17 F s y) → Refused n place ≡ readyAnswer F phase row s y j
+  unfolding readyAnswer
+  refused-ready n place h = ap (told (dataCount F j)) h

@@ -5,7 +5,7 @@ use mathlib.Core.Path.{_≡_, refl, sym, _∙_}
 use native.Mathlib.Omega.{arith}
 use lib.ListN.{length, getD, take, length-set}
 use lib.Seq.{ext-getD, length-take-le, getD-take}
-use Rattle.cells.proofs.Walk.{Filled, filled-next, next-up}
+use Rattle.rows.proofs.Walk.{Filled, filled-next, next-up}
 use Rattle.cells.proofs.copy.Statement.{statement}
 use Rattle.cells.proofs.copy.Tie as tie
 

@@ -9,7 +9,7 @@ use Rattle.rules.specs.Plan.{Plan, planOf}
 use Rattle.rules.specs.Fits.{Fits, capacity}
 use Rattle.rules.specs.Frame.{frameOf, cells}
 use Rattle.cells.proofs.Frames.{cells-le, data-le}
-use Rattle.cells.proofs.Parts.{part-size, part-zero}
+use Rattle.cells.proofs.Parts.{part-size}
 use Rattle.cells.proofs.Answers.{count-late, count-is}
 use Rattle.cells.proofs.count_in.Statement.{statement}
 use Rattle.cells.proofs.count_in.Tie as tie
@@ -51,7 +51,7 @@ prepare-requires c κs =
     let pre = start .pre in
     let depth : c .before .before .before .number-at .result ≡ planOf (start .args .plan .now) .depth = unfold planOf in (c .before .before .before .number-at .ensures .0) in
     let size = part-size (start .args .ni) (small-at start) in
-    (pre .0, pre .1, depth, omega (arith, depth, pre .2), omega (arith, depth, pre .3), omega (arith, c .before .before .before .before .if1 .left), refl, size ∙ pre .4, omega (arith, size), λ p h. part-zero (start .args .ni) p (omega (arith, size)))
+    (pre .0, pre .1, depth, omega (arith, depth, pre .2), omega (arith, depth, pre .3), omega (arith, c .before .before .before .before .if1 .left), refl, size ∙ pre .4, omega (arith, size))
 
 cast-nd : tie.Need-cast-nd
 cast-nd c =

@@ -7,7 +7,7 @@ use lib.ListN.{length}
 use Rattle.counting.proofs.Laws.{count-le}
 use Rattle.rules.specs.Plan.{planOf}
 use Rattle.rules.specs.Frame.{frameOf}
-use Rattle.cells.specs.Loops.{meets}
+use Rattle.placeholders.specs.Meets.{meets}
 use Rattle.cells.proofs.Frames.{cells-le, flags-are}
 use Rattle.cells.proofs.Plans.{turning-of}
 use Rattle.cells.proofs.flags_at.Statement.{statement}
@@ -28,7 +28,7 @@ holders-requires c κs =
     let start = c .before .before .before .before .before .before in
     let pre = start .pre in
     let fits = pre .0 in
-    (pre .4, pre .5, omega (arith, c .before .before .number-at .ensures .0, pre .2, pre .6, fits .plcHigh, fits .few), omega (arith, pre .7, cells-le (frameOf (start .args .d) (planOf (start .args .plan .now))), fits .few), pre .9, pre .10)
+    (pre .4, pre .5, omega (arith, c .before .before .number-at .ensures .0, pre .2, pre .6, fits .plcHigh, fits .few), omega (arith, pre .7, cells-le (frameOf (start .args .d) (planOf (start .args .plan .now))), fits .few), pre .9)
 
 sub-result : tie.Need-sub-result
 sub-result c =

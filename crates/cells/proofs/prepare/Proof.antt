@@ -13,7 +13,7 @@ flags-at-requires c κs =
     let pre = c .before .before .before .before .before .before .before .before .before .before .before .before .before .pre in
     let spot = c .before .before .before .before .before .before .spots in
     let same = spot .kept .1 .1 .1 .1 .0 in
-    (pre .0, pre .1 .long, pre .1 .plcHigh, pre .2, pre .3, pre .4, pre .5, same ∙ pre .7, λ p h. spot .ensures .1 p (omega (arith, same)), omega (arith, same, pre .8), λ p h. pre .9 p (omega (arith, same)))
+    (pre .0, pre .1 .long, pre .1 .plcHigh, pre .2, pre .3, pre .4, pre .5, same ∙ pre .7, λ p h. spot .ensures .1 p (omega (arith, same)), omega (arith, same, pre .8))
 
 same-length : tie.Need-same-length
 same-length c = search needs

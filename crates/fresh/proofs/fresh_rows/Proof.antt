@@ -1,16 +1,15 @@
 -- `fresh::fresh_rows` meets its contract. Before row i the store is the one whose first i rows are made. Assumes nothing.
 use borrow.Author.Needs.{needs}
 use Prim.Native.Nat.{ℕ, _+_, _-_, _*_, _%_, _≤_}
-use mathlib.Core.Path.{_≡_, refl, sym, ap, _∙_}
+use mathlib.Core.Path.{_≡_, refl, ap, _∙_}
 use mathlib.Core.List.{List}
 use native.Mathlib.Omega.{arith}
 use native.Mathlib.Nat.{mod-lt}
-use native.Mathlib.Numerals.{add-one}
-use lib.ListN.{length, replicate}
+use lib.ListN.{length}
 use lib.Seq.{sets}
 use Rattle.rules.specs.Device.{phases}
 use Rattle.rules.specs.Plan.{planOf}
-use Rattle.rules.specs.Frame.{frameOf, inputCells, flush, filler}
+use Rattle.rules.specs.Frame.{frameOf, inputCells, flush}
 use Rattle.delay.proofs.Ring.{row-fits}
 use Rattle.fresh.proofs.Fresh.{madeRows, first-row, next-row, all-rows}
 use Rattle.fresh.proofs.fresh_rows.Statement.{statement}
@@ -77,7 +76,9 @@ loop-again c =
       omega arith,
       omega (arith, c .before .before .before .before .loop-test .taken),
       row .kept .1 .1 .1 .1 .1 .1 .0 ∙ l .inv .2,
-      λ s e. row .ensures ∙ (λ k. sets (l .inv .3 s e k) (i * w .all k) (inputCells F ((a .j + (phases - (w .depth k - i))) % phases) flush)) ∙ next-row F (a .j) s i (l .inv .0) ∙ ap (madeRows F (a .j) s) (sym (add-one i)),
+      λ s e. row .ensures
+          ∙ ap (λ (st : List ℕ). sets st (i * length (a .kc .now)) (inputCells F ((a .j + (phases - (a .m - i))) % phases) flush)) (l .inv .3 s e)
+          ∙ next-row F (a .j) s (a .m) (length (a .kc .now)) i (w .depth) (w .all) (l .inv .0),
     )
 
 same-length : tie.Need-same-length Inv-loop μ-loop
@@ -91,9 +92,8 @@ returns c =
     let w = g .pre .0 in
     let F = frameOf (a .d) (planOf (a .plan .now)) in
     let l = c .before .loop in
-    let done : l .i ≡ F .depth = omega (arith, l .inv .1, c .loop-test .left, w .depth) in
-    let first = c .before .before .before .before .put-filler .ensures ∙ ap (λ (k : ℕ). sets (a .store .now) 0 (replicate k filler)) (w .all) ∙ first-row F (a .j) (a .store .now) in
-    l .inv .3 (a .store .now) first ∙ ap (madeRows F (a .j) (a .store .now)) done ∙ all-rows F (a .j) (a .store .now)
+    let first = c .before .before .before .before .put-filler .ensures ∙ first-row F (a .j) (a .store .now) (length (a .kc .now)) (w .all) in
+    l .inv .3 (a .store .now) first ∙ all-rows F (a .j) (a .store .now) (l .i) (a .m) (w .depth) (l .inv .1) (c .loop-test .left)
 
 pub fresh-rows-spec : {M : Type 1} → statement M
 fresh-rows-spec =

@@ -1,7 +1,7 @@
 -- `fresh::listen_in` meets its contract: one law for each return. Assumes nothing.
 use borrow.Author.Needs.{needs}
 use Prim.Native.Nat.{ℕ, _*_, _≤_}
-use mathlib.Core.Path.{_≡_, sym, _∙_, subst}
+use mathlib.Core.Path.{_≡_, refl, sym, _∙_, subst}
 use native.Mathlib.Omega.{arith}
 use lib.ListN.{length}
 use Rattle.rules.specs.declared.Finding.the-variants.{Fine}
@@ -27,15 +27,15 @@ deep c = c .number-at .ensures .0
 abbrev Passed : tie.Start → Type 0
 Passed g = Fine ≡ startGrounds (frame g) (g .args .phase) (g .args .store .now)
 
-passed : (c : tie.After-enum-told) → Passed (c .before .before .before .before .before .before .before)
-passed c = sym (c .enum-told .given .1) ∙ c .before .before .start-grounds .ensures
+passed : (c : tie.After-enum-told) → Passed (c .before .before .before .before .before .before)
+passed c = sym (c .enum-told .given .1) ∙ c .before .before .start-grounds .ensures _ refl
 
 -- the store has M * N_I cells
-rows : (c : tie.After-enum-told) → c .before .before .before .before .number-at .result * c .before .before .before .before .before .before .before .args .ni ≤ length (c .before .before .before .before .before .before .before .args .store .now)
+rows : (c : tie.After-enum-told) → c .before .before .before .number-at .result * c .before .before .before .before .before .before .args .ni ≤ length (c .before .before .before .before .before .before .args .store .now)
 unfolding frameOf
 rows c =
-    let g = c .before .before .before .before .before .before .before in
-    subst (λ (k : ℕ). k ≤ length (g .args .store .now)) (sym (λ i. deep (c .before .before .before .before) i * g .pre .1 i)) (left-store (frame g) (g .args .phase) (g .args .store .now) (passed c))
+    let g = c .before .before .before .before .before .before in
+    subst (λ (k : ℕ). k ≤ length (g .args .store .now)) (sym (λ i. deep (c .before .before .before) i * g .pre .1 i)) (left-store (frame g) (g .args .phase) (g .args .store .now) (passed c))
 
 number-at-requires : tie.Need-number-at-requires
 number-at-requires c κs =
@@ -43,19 +43,16 @@ number-at-requires c κs =
     omega (arith, long (g .args .d) (g .args .plan .now) (g .pre .0))
 
 start-grounds-requires : tie.Need-start-grounds-requires
-start-grounds-requires c κs = (deep (c .before), c .before .before .before .before .pre .1, c .before .number-at .ensures .1, c .before .before .before .before .pre .2)
+start-grounds-requires c κs = (deep c, c .before .before .before .pre .1, c .number-at .ensures .1, c .before .before .before .pre .2)
 
 enum-known-g : tie.Need-enum-known-g
 enum-known-g c = search needs
 
-same-length : tie.Need-same-length
-same-length c = search needs
-
 returns : tie.Need-returns
 returns c =
-    let g = c .before .before .before .before .before .before .before .before in
+    let g = c .before .before .before .before .before .before .before in
     let a = g .args in
-    no-listen (frame g) (a .phase) (a .store .now) _ _ (sym (c .before .g .given .1) ∙ c .before .before .before .start-grounds .ensures) ∙ listen-left (a .d) (a .plan .now) (a .phase) (a .store .now) (g .pre .0)
+    no-listen (frame g) (a .phase) (a .store .now) _ _ (sym (c .before .g .given .1) ∙ c .before .before .before .start-grounds .ensures _ refl) ∙ listen-left (a .d) (a .plan .now) (a .phase) (a .store .now) (g .pre .0)
 
 enum-told : tie.Need-enum-told
 enum-told c = search needs
@@ -66,16 +63,16 @@ mul-need c = omega (arith, rows c)
 put-filler-requires : tie.Need-put-filler-requires
 put-filler-requires c κs = omega (arith, rows (c .before))
 
-same-length-2 : tie.Need-same-length-2
-same-length-2 c = search needs
+same-length : tie.Need-same-length
+same-length c = search needs
 
 returns-2 : tie.Need-returns-2
 unfolding frameOf
 returns-2 c =
     let told = c .before .before .before .before in
-    let g = told .before .before .before .before .before .before .before in
+    let g = told .before .before .before .before .before .before in
     let a = g .args in
-    listening (frame g) (a .phase) (a .store .now) (passed told) _ (c .before .before .put-filler .ensures ∙ all-filler (frame g) (a .store .now) _ _ (deep (told .before .before .before .before)) (g .pre .1)) ∙ listen-left (a .d) (a .plan .now) (a .phase) (a .store .now) (g .pre .0)
+    listening (frame g) (a .phase) (a .store .now) (passed told) _ (c .before .before .put-filler .ensures ∙ all-filler (frame g) (a .store .now) _ _ (deep (told .before .before .before)) (g .pre .1)) ∙ listen-left (a .d) (a .plan .now) (a .phase) (a .store .now) (g .pre .0)
 
 pub listen-in-spec : {M : Type 1} → statement M
 listen-in-spec =
@@ -84,10 +81,9 @@ listen-in-spec =
     number-at-requires
     start-grounds-requires
     enum-known-g
-    same-length
     returns
     enum-told
     mul-need
     put-filler-requires
-    same-length-2
+    same-length
     returns-2)

@@ -11,7 +11,7 @@ use Rattle.fresh.proofs.start_grounds.Tie as tie
 
 returns : tie.Need-returns
 unfolding frameOf
-returns c = let a = c .before .args in bad-phase (frameOf (a .d) (planOf (a .plan .now))) (a .phase) (a .store .now) (c .if1 .taken)
+returns c = let a = c .before .args in λ s e. bad-phase (frameOf (a .d) (planOf (a .plan .now))) (a .phase) s (c .if1 .taken)
 
 mul-if2 : tie.Need-mul-if2
 mul-if2 c =
@@ -25,7 +25,7 @@ returns-2 c =
     let a = g .args in
     let F = frameOf (a .d) (planOf (a .plan .now)) in
     let same : a .m * a .ni ≡ F .depth * cells F = λ i. g .pre .0 i * g .pre .1 i in
-    bad-store F (a .phase) (a .store .now) (c .before .if1 .left) (omega (arith, c .if2 .taken, same))
+    λ s e. bad-store F (a .phase) s (c .before .if1 .left) (omega (arith, c .if2 .taken, same, e))
 
 returns-3 : tie.Need-returns-3
 unfolding frameOf
@@ -34,7 +34,7 @@ returns-3 c =
     let a = g .args in
     let F = frameOf (a .d) (planOf (a .plan .now)) in
     let same : a .m * a .ni ≡ F .depth * cells F = λ i. g .pre .0 i * g .pre .1 i in
-    no-bad F (a .phase) (a .store .now) (c .before .if1 .left) (omega (arith, c .if2 .left, same))
+    λ s e. no-bad F (a .phase) s (c .before .if1 .left) (omega (arith, c .if2 .left, same, e))
 
 pub start-grounds-spec : {M : Type 1} → statement M
 start-grounds-spec =

@@ -1,7 +1,7 @@
 -- `fresh::start_in` meets its contract: one law for each return. Assumes nothing.
 use borrow.Author.Needs.{needs}
 use Prim.Native.Nat.{ℕ, _*_, _≤_}
-use mathlib.Core.Path.{_≡_, sym, _∙_, subst}
+use mathlib.Core.Path.{_≡_, refl, sym, _∙_, subst}
 use native.Mathlib.Omega.{arith}
 use lib.ListN.{length}
 use Rattle.rules.specs.declared.Finding.the-variants.{Fine}
@@ -9,6 +9,7 @@ use Rattle.rules.specs.Plan.{planOf}
 use Rattle.rules.specs.Frame.{Frame, frameOf}
 use Rattle.rules.specs.Steps.{startGrounds}
 use Rattle.steps.proofs.Accepted.{cells-low}
+use Rattle.fresh.proofs.Fresh.{spotted}
 use Rattle.fresh.proofs.Starts.{left-phase, left-store, no-start, started, start-left}
 use Rattle.fresh.proofs.start_in.Statement.{statement}
 use Rattle.fresh.proofs.start_in.Tie as tie
@@ -26,29 +27,26 @@ deep c = c .number-at .ensures .0
 abbrev Passed : tie.Start → Type 0
 Passed g = Fine ≡ startGrounds (frame g) (g .args .phase) (g .args .store .now)
 
-passed : (c : tie.After-enum-told) → Passed (c .before .before .before .before .before .before .before .before .before)
-passed c = sym (c .enum-told .given .1) ∙ c .before .before .start-grounds .ensures
+passed : (c : tie.After-enum-told) → Passed (c .before .before .before .before .before .before .before .before)
+passed c = sym (c .enum-told .given .1) ∙ c .before .before .start-grounds .ensures _ refl
 
 number-at-requires : tie.Need-number-at-requires
 number-at-requires c κs = search needs
 
 start-grounds-requires : tie.Need-start-grounds-requires
 start-grounds-requires c κs =
-    let g = c .before .before .before .before .before .before in
+    let g = c .before .before .before .before .before in
     let r = g .pre .0 in
-    (deep (c .before), r .all, c .before .number-at .ensures .1, omega (arith, r .all, cells-low (g .args .d) (planOf (g .args .plan .now)) (r .fits)))
+    (deep c, r .all, c .number-at .ensures .1, omega (arith, r .all, cells-low (g .args .d) (planOf (g .args .plan .now)) (r .fits)))
 
 enum-known-g : tie.Need-enum-known-g
 enum-known-g c = search needs
 
-same-length : tie.Need-same-length
-same-length c = search needs
-
 returns : tie.Need-returns
 returns c =
-    let g = c .before .before .before .before .before .before .before .before .before .before in
+    let g = c .before .before .before .before .before .before .before .before .before in
     let a = g .args in
-    no-start (frame g) (a .phase) (a .store .now) _ _ (sym (c .before .g .given .1) ∙ c .before .before .before .start-grounds .ensures) ∙ start-left (a .d) (a .plan .now) (a .phase) (a .store .now) (g .pre .0 .fine)
+    no-start (frame g) (a .phase) (a .store .now) _ _ (sym (c .before .g .given .1) ∙ c .before .before .before .start-grounds .ensures _ refl) ∙ start-left (a .d) (a .plan .now) (a .phase) (a .store .now) (g .pre .0 .fine)
 
 enum-told : tie.Need-enum-told
 enum-told c = search needs
@@ -60,24 +58,19 @@ fresh-rows-requires : tie.Need-fresh-rows-requires
 unfolding frameOf
 fresh-rows-requires c κs =
     let told = c .before .before .before .before .before .before .before .before .before in
-    let g = told .before .before .before .before .before .before .before .before .before in
+    let g = told .before .before .before .before .before .before .before .before in
+    let a = g .args in
     let r = g .pre .0 in
-    let m = deep (told .before .before .before .before) in
+    let m = deep (told .before .before .before) in
     let made = c .before .before .before .before .before .before .spots in
     let same = made .kept .1 .1 .1 .1 .0 in (
-      record {
-        fits = r .fits;
-        long = r .studied .long;
-        plcHigh = r .studied .plcHigh;
-        depth = m;
-        deep = omega (arith, m, r .deep);
-        shallow = omega (arith, m, r .shallow);
-        all = same ∙ r .all;
-        spots = λ p h. made .ensures .1 p (omega (arith, h, same));
-      },
-      left-phase (frame g) (g .args .phase) (g .args .store .now) (passed told),
-      subst (λ (k : ℕ). k ≤ length (g .args .store .now)) (sym (λ i. m i * (same ∙ r .all) i)) (left-store (frame g) (g .args .phase) (g .args .store .now) (passed told)),
+      spotted (a .d) (a .plan .now) _ _ _ _ r m same (made .ensures .1),
+      left-phase (frame g) (a .phase) (a .store .now) (passed told),
+      subst (λ (k : ℕ). k ≤ length (a .store .now)) (sym (λ i. m i * (same ∙ r .all) i)) (left-store (frame g) (a .phase) (a .store .now) (passed told)),
     )
+
+same-length : tie.Need-same-length
+same-length c = search needs
 
 same-length-2 : tie.Need-same-length-2
 same-length-2 c = search needs
@@ -85,13 +78,10 @@ same-length-2 c = search needs
 same-length-3 : tie.Need-same-length-3
 same-length-3 c = search needs
 
-same-length-4 : tie.Need-same-length-4
-same-length-4 c = search needs
-
 returns-2 : tie.Need-returns-2
 returns-2 c =
     let told = c .before .before .before .before .before .before .before .before .before .before .before .before in
-    let g = told .before .before .before .before .before .before .before .before .before in
+    let g = told .before .before .before .before .before .before .before .before in
     let a = g .args in
     started (frame g) (a .phase) (a .store .now) (passed told) _ (c .before .before .fresh-rows .ensures) ∙ start-left (a .d) (a .plan .now) (a .phase) (a .store .now) (g .pre .0 .fine)
 
@@ -102,12 +92,11 @@ start-in-spec =
     number-at-requires
     start-grounds-requires
     enum-known-g
-    same-length
     returns
     enum-told
     spots-requires
     fresh-rows-requires
+    same-length
     same-length-2
     same-length-3
-    same-length-4
     returns-2)

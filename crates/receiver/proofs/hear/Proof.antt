@@ -1,22 +1,18 @@
 -- `receiver::hear` meets its contract: one law for each return. Assumes nothing.
 use borrow.Author.Needs.{needs}
-use Prim.Native.Nat.{ℕ, _+_, _-_, _*_, _%_}
-use mathlib.Core.Path.{_≡_, sym, ap, _∙_}
+use Prim.Native.Nat.{ℕ, _-_, _*_}
+use mathlib.Core.Path.{_≡_, refl, sym, ap, _∙_}
 use native.Mathlib.Omega.{arith}
-use lib.Dec.{ltb}
 use lib.ListN.{length}
 use lib.Seq.{sets}
 use borrow.Author.Tests.{ltb-false}
-use Rattle.counting.specs.Search.{pick}
 use Rattle.rules.specs.Device.{phases}
 use Rattle.rules.specs.Plan.{planOf}
 use Rattle.rules.specs.Frame.{Frame, frameOf}
-use Rattle.rules.specs.Store.{nextRow}
 use Rattle.rules.specs.Receive.{outPhase, warming, heardState, heardStore}
 use Rattle.fill.proofs.Inputs.{free-count}
-use Rattle.cells.proofs.Frames.{data-le}
 use Rattle.steps.proofs.Accepted.{cells-low}
-use Rattle.receiver.proofs.Answers.{at, arriving, warmed, gathered, data-handed}
+use Rattle.receiving.proofs.Answers.{at, arriving, warming-at, state-at, warmed, gathered, data-handed}
 use Rattle.receiver.proofs.hear.Statement.{statement}
 use Rattle.receiver.proofs.hear.Tie as tie
 
@@ -31,18 +27,12 @@ stored c = c .take-in .ensures
 
 -- the next state
 moved : (c : tie.After-next-state) → c .next-state .result ≡ heardState (frame (c .before .before .before .before .before .before .before .before .before .before .before .before .before)) (c .before .before .before .before .before .before .before .before .before .before .before .before .before .args .state)
-unfolding heardState warming frameOf
-moved c =
-    let g = c .before .before .before .before .before .before .before .before .before .before .before .before .before in
-    let v = g .args .state in
-    c .next-state .ensures ∙ (λ i. record { phase = (v .phase + 1) % phases; row = nextRow (g .pre .1 .deep i) (v .row); heard = pick (ltb (v .heard) (g .pre .1 .deep i - 1)) (v .heard + 1) (v .heard) })
+unfolding frameOf
+moved c = let g = c .before .before .before .before .before .before .before .before .before .before .before .before .before in c .next-state .ensures ∙ state-at (frame g) (g .args .state) (g .args .m) (g .pre .1 .deep) phases refl
 
 -- whether it is warming
 said : (c : tie.After-warms) → warming (frame (c .before .before .before .before .before .before .before .before .before .before .before .before .before .before)) (c .before .before .before .before .before .before .before .before .before .before .before .before .before .before .args .state) ≡ c .warms .result
-unfolding warming frameOf
-said c =
-    let g = c .before .before .before .before .before .before .before .before .before .before .before .before .before .before in
-    sym (c .warms .ensures ∙ ap (λ (m : ℕ). ltb (g .args .state .heard) (m - 1)) (g .pre .1 .deep))
+said c = let g = c .before .before .before .before .before .before .before .before .before .before .before .before .before .before in sym (c .warms .ensures ∙ warming-at (frame g) (g .args .state) (g .args .m) (g .pre .1 .deep))
 
 cast-row : tie.Need-cast-row
 cast-row c = search needs
@@ -85,11 +75,6 @@ hand-out-requires c κs =
       omega (arith, free-count (frame g) (outPhase (frame g) (a .state .phase)) (a .flag .now) (pre .5) (length (a .x .now)) (w .all), w .number, w .room (ltb-false (a .state .heard) (a .m - 1) (sym (c .before .before .before .before .warms .ensures) ∙ c .before .before .before .if1 .left))),
     )
 
-cast-t24 : tie.Need-cast-t24
-cast-t24 c =
-    let g = c .before .before .before .before .before .before .before .before .before .before .before .before .before .before .before .before .before .before .before .before .before .before .before in
-    omega (arith, g .pre .1 .number, data-le (frame g) (outPhase (frame g) (g .args .state .phase)), cells-low (g .args .d) (planOf (g .args .plan .now)) (g .pre .0))
-
 same-length-2 : tie.Need-same-length-2
 same-length-2 c = search needs
 
@@ -121,7 +106,6 @@ hear-spec =
     same-length
     returns
     hand-out-requires
-    cast-t24
     same-length-2
     same-length-3
     same-length-4

@@ -11,10 +11,10 @@ use Rattle.rules.specs.Grounds.{verdict}
 use Rattle.rules.specs.Receive.{receiveStep}
 use Rattle.rules.proofs.Sizes.{khz50-fits}
 use Rattle.judge.proofs.Verdicts.{first-ground}
-use Rattle.cells.proofs.Parts.{part-size, part-zero}
+use Rattle.cells.proofs.Parts.{part-size}
 use Rattle.steps.specs.Ready.{Ready}
 use Rattle.steps.proofs.Accepted.{cells-low, khz50-ready}
-use Rattle.receiver.proofs.Answers.{at, arriving, step-refused}
+use Rattle.receiving.proofs.Answers.{at, arriving, step-refused}
 use Rattle.receiver.proofs.receive.Statement.{statement}
 use Rattle.receiver.proofs.receive.Tie as tie
 
@@ -68,7 +68,7 @@ receive-in-requires : tie.Need-receive-in-requires
 receive-in-requires c κs =
     let k = c .before .before .before .before .before .before .before .before in
     let size = part-size (k .n .given .0 .0) (low k) in
-    (subst (λ (i : ℕ). Ready (k .before .before .before .before .khz50-device .result) (k .before .before .before .before .before .before .before .before .before .args .plan .now) i (k .before .before .study .last .1 .1 .0)) (sym size) (accepted k), refl, refl, refl, λ p h. part-zero (k .n .given .0 .0) p (rw size at h))
+    (subst (λ (i : ℕ). Ready (k .before .before .before .before .khz50-device .result) (k .before .before .before .before .before .before .before .before .before .args .plan .now) i (k .before .before .study .last .1 .1 .0)) (sym size) (accepted k), refl, refl, refl)
 
 returns : tie.Need-returns
 unfolding receiveStep

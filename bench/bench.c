@@ -1,0 +1,271 @@
+/* Times the library beside the two C implementations, all in one run: in each round every implementation makes the same small batch of
+ * calls, in turn, and what they leave is compared byte for byte. Each line gives the median round of each, in microseconds a call.
+ *
+ *     bench PLANS [ROUNDS]
+ *
+ * prints lines `plan, tab, call`, tab, and a number for each implementation. bench/run.sh builds it and makes the table. */
+#define _POSIX_C_SOURCE 199309L
+#include "calls.h"
+
+#include <stdio.h>
+#include <stdlib.h>
+#include <string.h>
+#include <time.h>
+
+enum { SYMBOL = 8192, DATA = 7490, STORE = 239680, ANSWER = 20, PHASES = 128, TRUNKS = 16 };
+enum { WARM = 2, TIMED = 16, BATCH = WARM + TIMED }; /* calls of a batch; the first are not timed, they bring the store into the cache */
+enum { TURNS = 3 };                                  /* turns of sixteen trunks, of which the first is not timed */
+enum { POOL = 8, MOST_ROUNDS = 4096 };
+enum call { JUDGE, EMIT, FLUSH, RECEIVE };
+
+extern const struct calls library, best_gcc, plain_gcc;
+#ifdef WITH_CLANG
+extern const struct calls best_clang, plain_clang;
+static const struct calls *const ALL[] = {&library, &best_gcc, &best_clang, &plain_gcc, &plain_clang};
+#else
+static const struct calls *const ALL[] = {&library, &best_gcc, &plain_gcc};
+#endif
+enum { IMPLEMENTATIONS = sizeof ALL / sizeof ALL[0] };
+
+/* An emitter or receiver. */
+struct trunk {
+    uint8_t store[STORE];
+    uint32_t phase, row, heard;
+};
+
+/* What an implementation works on, and what its calls of a batch left. */
+struct bench {
+    struct trunk trunk[TRUNKS];
+    uint8_t out[TURNS * TRUNKS][SYMBOL];
+    uint8_t answer[TURNS * TRUNKS][ANSWER];
+    uint32_t number[TURNS * TRUNKS];
+    double time[MOST_ROUNDS];
+};
+
+static struct bench *bench[IMPLEMENTATIONS], *feed; /* feed: the emitter whose symbols the receivers get */
+static uint8_t plan[4096], pool[POOL][DATA], arriving[TURNS * TRUNKS][SYMBOL];
+static size_t plan_len;
+static uint32_t counts[PHASES];
+
+static void fail(const char *what)
+{
+    fprintf(stderr, "bench: %s\n", what);
+    exit(1);
+}
+
+static uint32_t get(const uint8_t *at)
+{
+    return (uint32_t)at[0] << 24 | (uint32_t)at[1] << 16 | (uint32_t)at[2] << 8 | at[3];
+}
+
+static double now(void)
+{
+    struct timespec t;
+    clock_gettime(CLOCK_MONOTONIC, &t);
+    return (double)t.tv_sec * 1e6 + (double)t.tv_nsec * 1e-3;
+}
+
+static uint32_t chance(void)
+{
+    static uint64_t x = 88172645463325252u;
+    x ^= x << 13;
+    x ^= x >> 7;
+    x ^= x << 17;
+    return (uint32_t)(x >> 32);
+}
+
+static void fill_pool(void)
+{
+    for (int i = 0; i < POOL; i++)
+        for (int j = 0; j < DATA; j += 2) {
+            uint32_t x = chance() & 16383;
+            pool[i][j] = (uint8_t)(x >> 8);
+            pool[i][j + 1] = (uint8_t)x;
+        }
+}
+
+/* One call of the batch, on one trunk; data and symbols are those of its number. */
+static void make(const struct calls *c, struct bench *b, enum call call, struct trunk *t, int i)
+{
+    uint8_t *out = b->out[i], *answer = b->answer[i];
+    if (call == JUDGE) {
+        b->number[i] = c->judge(plan, plan_len, answer, ANSWER);
+        return;
+    }
+    if (call == EMIT)
+        b->number[i] = c->emit(plan, plan_len, t->phase, t->row, t->store, STORE, pool[i % POOL], 2 * counts[t->phase], out, SYMBOL,
+                               answer, ANSWER);
+    if (call == FLUSH)
+        b->number[i] = c->flush(plan, plan_len, t->phase, t->row, t->store, STORE, out, SYMBOL, answer, ANSWER);
+    if (call == RECEIVE)
+        b->number[i] = c->receive(plan, plan_len, t->phase, t->row, t->heard, t->store, STORE, arriving[i], SYMBOL, out, DATA, answer,
+                                  ANSWER);
+    t->phase = get(answer + 4);
+    t->row = get(answer + 8);
+    t->heard = get(answer + 12);
+}
+
+/* A batch of calls; the answer is the time of one. */
+static double batch(const struct calls *c, struct bench *b, enum call call, int trunks)
+{
+    int warm = trunks == 1 ? WARM : trunks, all = trunks == 1 ? BATCH : TURNS * trunks, i = 0;
+    for (; i < warm; i++)
+        make(c, b, call, &b->trunk[i % trunks], i);
+    double from = now();
+    for (; i < all; i++)
+        make(c, b, call, &b->trunk[i % trunks], i);
+    return (now() - from) / (all - warm);
+}
+
+static void start(const struct calls *c, struct bench *b, enum call call, int trunks)
+{
+    for (int i = 0; i < trunks; i++) {
+        struct trunk *t = &b->trunk[i];
+        uint32_t n = call == RECEIVE ? c->fresh_receiver(plan, plan_len, 5, t->store, STORE, b->answer[0], ANSWER)
+                                     : c->fresh_emitter(plan, plan_len, 5, t->store, STORE, b->answer[0], ANSWER);
+        if (n != 0)
+            fail("a fresh start is refused");
+        t->phase = get(b->answer[0] + 4);
+        t->row = get(b->answer[0] + 8);
+        t->heard = get(b->answer[0] + 12);
+    }
+}
+
+/* The symbols that the receivers get next: all trunks the same ones. */
+static void arrive(int trunks)
+{
+    int all = trunks == 1 ? BATCH : TURNS * trunks;
+    for (int i = 0; i < all; i++) {
+        if (i % trunks == 0)
+            make(&best_gcc, feed, EMIT, &feed->trunk[0], i);
+        memcpy(arriving[i], feed->out[i - i % trunks], SYMBOL);
+    }
+}
+
+static void compare(enum call call, int trunks)
+{
+    int all = trunks == 1 ? BATCH : TURNS * trunks;
+    for (int n = 1; n < IMPLEMENTATIONS; n++) {
+        const struct bench *a = bench[0], *b = bench[n];
+        if (memcmp(a->number, b->number, (size_t)all * sizeof a->number[0]) != 0)
+            fail("the numbers differ");
+        if (memcmp(a->answer, b->answer, (size_t)all * ANSWER) != 0)
+            fail("the answers differ");
+        if (call != JUDGE && memcmp(a->out, b->out, (size_t)all * SYMBOL) != 0)
+            fail("the symbols or the data differ");
+    }
+    for (int i = 0; call != JUDGE && i < all; i++)
+        if (bench[0]->number[i] != 0)
+            fail("a step is refused");
+}
+
+static int rising(const void *a, const void *b)
+{
+    double x = *(const double *)a, y = *(const double *)b;
+    return (x > y) - (x < y);
+}
+
+static void line(const char *name, enum call call, int trunks, int rounds)
+{
+    static const char *const calls[] = {"judge", "emit", "flush", "receive"};
+    int settle = 40 / (trunks == 1 ? BATCH : TURNS) + 1; /* batches until no emitter or receiver is warming */
+    for (int n = 0; call != JUDGE && n < IMPLEMENTATIONS; n++)
+        start(ALL[n], bench[n], call, trunks);
+    if (call == RECEIVE)
+        start(&best_gcc, feed, EMIT, 1);
+    for (int round = -settle; round < rounds; round++) {
+        if (call == RECEIVE)
+            arrive(trunks);
+        for (int n = 0; n < IMPLEMENTATIONS; n++) {
+            int which = (n + (round < 0 ? 0 : round)) % IMPLEMENTATIONS;
+            double time = batch(ALL[which], bench[which], call, trunks);
+            if (round >= 0)
+                bench[which]->time[round] = time;
+        }
+        compare(call, trunks);
+    }
+    for (int n = 1; call != JUDGE && n < IMPLEMENTATIONS; n++)
+        for (int i = 0; i < trunks; i++)
+            if (memcmp(bench[0]->trunk[i].store, bench[n]->trunk[i].store, STORE) != 0)
+                fail("the stores differ");
+    printf("%s\t%s", name, trunks == 1 ? calls[call] : call == EMIT ? "emit, 16 trunks" : "receive, 16 trunks");
+    for (int n = 0; n < IMPLEMENTATIONS; n++) {
+        qsort(bench[n]->time, (size_t)rounds, sizeof(double), rising);
+        printf("\t%.3f", bench[n]->time[rounds / 2]);
+    }
+    printf("\n");
+    fflush(stdout);
+}
+
+/* Reads a plan, at another depth if one is given, and counts its data. */
+static void load(const char *folder, const char *name, uint32_t depth)
+{
+    char path[4096];
+    uint8_t answer[ANSWER];
+    snprintf(path, sizeof path, "%s/%s", folder, name);
+    FILE *file = fopen(path, "rb");
+    if (file == NULL)
+        fail(path);
+    plan_len = fread(plan, 1, sizeof plan, file);
+    fclose(file);
+    if (depth != 0)
+        plan[7] = (uint8_t)depth;
+    for (int n = 0; n < IMPLEMENTATIONS; n++)
+        for (uint32_t j = 0; j < PHASES; j++) {
+            if (ALL[n]->data_count(plan, plan_len, j, answer, ANSWER) != 0)
+                fail("a plan is refused");
+            if (n != 0 && counts[j] != get(answer + 16))
+                fail("the counts differ");
+            counts[j] = get(answer + 16);
+        }
+}
+
+static void head(void)
+{
+    char text[256];
+    FILE *file = fopen("/proc/cpuinfo", "r");
+    while (file != NULL && fgets(text, sizeof text, file) != NULL)
+        if (strncmp(text, "model name", 10) == 0) {
+            printf("# CPU%s", strchr(text, ':'));
+            break;
+        }
+    if (file != NULL)
+        fclose(file);
+    if ((file = fopen("/proc/loadavg", "r")) != NULL && fgets(text, sizeof text, file) != NULL)
+        printf("# load before the run: %s", text);
+    if (file != NULL)
+        fclose(file);
+    for (int n = 1; n < IMPLEMENTATIONS; n++)
+        printf("# %s: %s, %s\n", ALL[n]->name, ALL[n]->compiler, FLAGS);
+    printf("# plan\tcall");
+    for (int n = 0; n < IMPLEMENTATIONS; n++)
+        printf("\t%s", ALL[n]->name);
+    printf("\n");
+}
+
+int main(int words, char **word)
+{
+    static const struct { const char *name, *file; uint32_t depth; } plans[] = {
+        {"Plan A", "plan-a.plan", 0},       {"largest, M 1", "largest.plan", 1},   {"largest, M 4", "largest.plan", 4},
+        {"largest, M 31", "largest.plan", 31}, {"largest, M 32", "largest.plan", 32}, {"hostile", "overlapping-510.plan", 0},
+        {"150 singles", "singles-150.plan", 0}};
+    int rounds = words > 2 ? atoi(word[2]) : 300;
+    if (words < 2 || rounds < 1 || rounds > MOST_ROUNDS)
+        fail("usage: bench PLANS [ROUNDS]");
+    for (int n = 0; n < IMPLEMENTATIONS; n++)
+        if ((bench[n] = calloc(1, sizeof *bench[n])) == NULL)
+            fail("no memory");
+    if ((feed = calloc(1, sizeof *feed)) == NULL)
+        fail("no memory");
+    fill_pool();
+    head();
+    for (size_t i = 0; i < sizeof plans / sizeof plans[0]; i++) {
+        load(word[1], plans[i].file, plans[i].depth);
+        for (enum call call = JUDGE; call <= RECEIVE; call++)
+            line(plans[i].name, call, 1, rounds);
+    }
+    load(word[1], "largest.plan", 32);
+    line("largest, M 32", EMIT, TRUNKS, rounds / 4 + 1);
+    line("largest, M 32", RECEIVE, TRUNKS, rounds / 4 + 1);
+    return 0;
+}

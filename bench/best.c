@@ -1,0 +1,882 @@
+/* The head end's calls in the fastest C we could write. Excluded and taken subcarriers are sets of 4,096 bits, so that a range costs the
+ * same however long it is; cells stay as they are in memory, high byte first; the stretches of neighbouring subcarriers with a rank are
+ * copied whole; rows are turned into columns eight by eight; placeholders are found by comparing sixteen cells at a time. */
+#include "best.h"
+
+#include <string.h>
+
+/* Sixteen bytes, eight cells. */
+typedef uint8_t sixteen __attribute__((vector_size(16)));
+typedef uint16_t eight __attribute__((vector_size(16)));
+
+/* A cell as it stands in memory, at any address, and a number in that order. */
+typedef uint16_t __attribute__((may_alias, aligned(1))) cell;
+#if __BYTE_ORDER__ == __ORDER_BIG_ENDIAN__
+#define CELL(x) (x)
+#define BIG64(x) (x)
+#define BIG32(x) (x)
+#define LITTLE64(x) __builtin_bswap64(x)
+#else
+#define CELL(x) ((((x) & 0xff) << 8) | ((x) >> 8))
+#define BIG64(x) __builtin_bswap64(x)
+#define BIG32(x) __builtin_bswap32(x)
+#define LITTLE64(x) (x)
+#endif
+
+enum {
+    HOLDER = CELL(0x8000),
+    FILLER = CELL(0x8001),
+    EXCLUDED = CELL(0x8002),
+    CONTINUOUS = CELL(0x8003),
+    PLC = CELL(0x8004),
+    NO_DATA = CELL(0xC000)
+};
+
+enum { SUBCARRIERS = 4096, WORDS = 64, PILOTS = 120, CELLS = 3745, SEGMENTS = 2048, ANSWER = 20 };
+
+/* What a plan says: which subcarriers are excluded, and which are without a rank. */
+struct plan {
+    uint32_t l, m, n, pilots, place;
+    uint64_t excluded[WORDS], taken[WORDS];
+    uint16_t pilot[PILOTS];
+};
+
+/* Neighbouring subcarriers with a rank, from k to end - 1. */
+struct segment {
+    uint16_t k, end;
+};
+
+/* The seven bits of each number in reversed order. */
+static const uint8_t REVERSED[128] = {
+#define R1(x) (x), (x) + 64
+#define R2(x) R1(x), R1((x) + 32)
+#define R3(x) R2(x), R2((x) + 16)
+#define R4(x) R3(x), R3((x) + 8)
+#define R5(x) R4(x), R4((x) + 4)
+#define R6(x) R5(x), R5((x) + 2)
+    R6(0), R6(1)};
+
+/* Numbers 0 to 127 modulo each depth. */
+#define M2(x, m) (x) % (m), ((x) + 1) % (m)
+#define M8(x, m) M2(x, m), M2((x) + 2, m), M2((x) + 4, m), M2((x) + 6, m)
+#define M32(x, m) M8(x, m), M8((x) + 8, m), M8((x) + 16, m), M8((x) + 24, m)
+#define MODULO(m) {M32(0, m), M32(32, m), M32(64, m), M32(96, m)}
+#define MODULO4(m) MODULO(m), MODULO((m) + 1), MODULO((m) + 2), MODULO((m) + 3)
+static const uint8_t REST[33][128] = {{0},         MODULO4(1),  MODULO4(5),  MODULO4(9), MODULO4(13),
+                                      MODULO4(17), MODULO4(21), MODULO4(25), MODULO4(29)};
+
+/* The bits from each place up. */
+#define F4(x) ~(uint64_t)0 << (x), ~(uint64_t)0 << ((x) + 1), ~(uint64_t)0 << ((x) + 2), ~(uint64_t)0 << ((x) + 3)
+#define F16(x) F4(x), F4((x) + 4), F4((x) + 8), F4((x) + 12)
+static const uint64_t FROM[65] = {F16(0), F16(16), F16(32), F16(48), 0};
+
+/* --- grounds 1 to 5 --- */
+
+static uint32_t refuse(struct plan *s, uint32_t ground, uint32_t place)
+{
+    s->place = place;
+    return ground;
+}
+
+static inline uint64_t record(const uint8_t *plan, size_t i)
+{
+    uint64_t w;
+    memcpy(&w, plan + 8 * i, 8);
+    return BIG64(w);
+}
+
+/* Excluded ranges as they come: a bit for each subcarrier, but the words that lie wholly inside a range as a bit each in `full`; `edges`
+ * tells the words in which a range begins, or the subcarrier after its end lies. The word past the last takes what is not wanted. */
+struct ranges {
+    uint64_t word[WORDS + 1], full, edges;
+};
+
+static inline void exclude(struct ranges *r, uint32_t first, uint32_t second)
+{
+    uint32_t a = first >> 6, b = second >> 6, after = (second + 1) >> 6 & 63;
+    uint64_t low = FROM[first & 63], high = ~FROM[(second & 63) + 1];
+    r->word[a] |= a == b ? low & high : low;
+    r->word[a == b ? WORDS : b] |= high;
+    r->full |= FROM[a + 1] & ~FROM[b];
+    r->edges |= (FROM[a] ^ FROM[a + 1]) | (FROM[after] ^ FROM[after + 1]);
+}
+
+/* Record 0, and the length. */
+static inline uint32_t read_first(struct plan *s, const uint8_t *plan, size_t length, uint32_t *next)
+{
+    if (length < 8 || length > 4096 || length % 8 != 0)
+        return refuse(s, 1, 0);
+    uint64_t w = record(plan, 0);
+    *next = w >> 32 & 0xffff;
+    s->l = w >> 16 & 0xffff;
+    s->m = w & 0xffff;
+    s->pilots = 0;
+    if (w >> 48 != 0x100)
+        return refuse(s, 2, 0);
+    if (*next >= length / 8)
+        return refuse(s, 3, 0);
+    return s->l < 204 || s->l > 3885 || s->m < 1 || s->m > 32 ? refuse(s, 4, 0) : 0;
+}
+
+/* Reads the chain. `rec` takes the records of the pilots. */
+static inline uint32_t read_chain(struct plan *s, const uint8_t *plan, size_t length, uint16_t *rec, struct ranges *r)
+{
+    uint32_t records = (uint32_t)(length / 8), i, next = 0, pilots = 0, g = read_first(s, plan, length, &next);
+    if (g != 0)
+        return g;
+    memset(r, 0, sizeof *r);
+    while ((i = next) != 0) {
+        uint64_t w = record(plan, i);
+        uint32_t kind = (uint32_t)(w >> 48), first = w >> 16 & 0xffff, second = w & 0xffff;
+        next = w >> 32 & 0xffff;
+        if (kind != 0x200 && (kind != 0x300 || second != 0))
+            return refuse(s, 2, i);
+        if (next != 0 && next - (i + 1) >= records - (i + 1))
+            return refuse(s, 3, i);
+        if (kind == 0x200) {
+            if (second > 4095 || first > second)
+                return refuse(s, 4, i);
+            exclude(r, first, second);
+        } else {
+            if (first > 4095)
+                return refuse(s, 4, i);
+            if (pilots == PILOTS)
+                return refuse(s, 5, i);
+            s->pilot[pilots] = (uint16_t)first;
+            rec[pilots++] = (uint16_t)i;
+        }
+    }
+    for (int j = 0; j < WORDS; j++)
+        s->excluded[j] = r->word[j] | (0 - (r->full >> j & 1));
+    s->pilots = pilots;
+    return 0;
+}
+
+/* --- grounds 6 to 8 --- */
+
+static inline int has(const uint64_t *set, uint32_t k)
+{
+    return set[k >> 6] >> (k & 63) & 1;
+}
+
+static inline void add(uint64_t *set, uint32_t k)
+{
+    set[k >> 6] |= (uint64_t)1 << (k & 63);
+}
+
+/* The lowest subcarrier of a to b - 1 that is excluded (invert 0) or active (invert ~0); b if none is. */
+static uint32_t lowest(const uint64_t *set, uint32_t a, uint32_t b, uint64_t invert)
+{
+    uint64_t w = (set[a >> 6] ^ invert) & ~(uint64_t)0 << (a & 63);
+    for (uint32_t j = a >> 6;;) {
+        if (w != 0) {
+            uint32_t k = 64 * j + (uint32_t)__builtin_ctzll(w);
+            return k < b ? k : b;
+        }
+        if (64 * ++j >= b)
+            return b;
+        w = set[j] ^ invert;
+    }
+}
+
+static inline uint32_t take_pilots(struct plan *s, const uint16_t *rec)
+{
+    static const uint8_t distances[4] = {15, 24, 35, 47};
+    uint32_t l = s->l, k = lowest(s->excluded, 0, 148, ~(uint64_t)0);
+    if (k < 148)
+        return refuse(s, 6, k);
+    k = lowest(s->excluded, 3949, SUBCARRIERS, ~(uint64_t)0);
+    if (k < SUBCARRIERS)
+        return refuse(s, 6, k);
+    k = lowest(s->excluded, l - 56, l + 64, 0);
+    if (k < l + 64)
+        return refuse(s, 7, k);
+    memcpy(s->taken, s->excluded, sizeof s->taken);
+    for (k = l; k < l + 8; k++)
+        add(s->taken, k);
+    for (int i = 0; i < 4; i++) {
+        add(s->taken, l - distances[i]);
+        add(s->taken, l + 7 + distances[i]);
+    }
+    for (uint32_t i = 0; i < s->pilots; i++) {
+        uint64_t bit = (uint64_t)1 << (s->pilot[i] & 63), *w = &s->taken[s->pilot[i] >> 6];
+        if (*w & bit)
+            return refuse(s, 8, rec[i]);
+        *w |= bit;
+    }
+    return 0;
+}
+
+/* --- grounds 9 to 15 --- */
+
+/* The first subcarrier of the lowest window of `size` in the band from a on with more than `most` of the n excluded ones; 4096 if none. */
+static uint32_t window(const uint16_t *x, uint32_t n, uint32_t a, uint32_t width, uint32_t size, uint32_t most)
+{
+    uint16_t near = 0;
+    if (width + 1 < size || n <= most)
+        return SUBCARRIERS;
+    for (uint32_t q = 0; q < n - most; q++)
+        near |= (uint16_t)(x[q + most] - x[q]) < size;
+    if (!near)
+        return SUBCARRIERS;
+    uint32_t q = 0;
+    while ((uint32_t)(x[q + most] - x[q]) >= size)
+        q++;
+    return x[q + most] + 1u < a + size ? a : x[q + most] + 1 - size;
+}
+
+/* The lowest places of grounds 9, 12, 13 and 14 so far, 4096 if there is none; whether a band is wide; the first and the last active
+ * subcarrier, and how many between them are excluded. */
+struct found {
+    uint32_t narrow, crowded, long_window, short_window, wide, first, last, gone;
+};
+
+static void end_band(struct found *f, uint32_t a, uint32_t b, const uint16_t *x, uint32_t n)
+{
+    uint32_t width = b - a;
+    if (width < 40 && f->narrow == SUBCARRIERS)
+        f->narrow = a;
+    f->wide |= width >= 440;
+    if (n == 0)
+        return;
+    if (20 * n > width && f->crowded == SUBCARRIERS)
+        f->crowded = a;
+    if (f->long_window == SUBCARRIERS)
+        f->long_window = window(x, n, a, width, 120, 6);
+    if (f->short_window == SUBCARRIERS)
+        f->short_window = window(x, n, a, width, 20, 4);
+}
+
+/* Goes through the runs of excluded subcarriers; `edges` tells the words in which one begins or ends. */
+static inline void find_bands(const struct plan *s, uint64_t edges, struct found *f)
+{
+    uint16_t x[SUBCARRIERS]; /* the individually excluded of the band from a on */
+    uint32_t n = 0, begin = 0, a = 0;
+    for (; edges != 0; edges &= edges - 1) {
+        uint32_t j = (uint32_t)__builtin_ctzll(edges);
+        uint64_t w = s->excluded[j], e = w ^ (w << 1 | (j == 0 ? 0 : s->excluded[j - 1] >> 63));
+        for (; e != 0; e &= e - 1) {
+            uint32_t k = 64 * j + (uint32_t)__builtin_ctzll(e);
+            if (has(s->excluded, k)) {
+                begin = k;
+                continue;
+            }
+            if (begin == 0) {
+                f->first = a = k;
+                continue;
+            }
+            f->gone += k - begin;
+            if (k - begin >= 20) {
+                end_band(f, a, begin - 1, x, n);
+                a = k;
+                n = 0;
+                continue;
+            }
+            for (uint32_t y = begin; y < k; y++)
+                x[n++] = (uint16_t)y;
+        }
+    }
+    f->last = begin - 1;
+    end_band(f, a, begin - 1, x, n);
+}
+
+static inline uint32_t measure_bands(struct plan *s, uint64_t edges)
+{
+    struct found f = {SUBCARRIERS, SUBCARRIERS, SUBCARRIERS, SUBCARRIERS, 0, 0, 0, 0};
+    find_bands(s, edges, &f);
+    if (f.narrow < SUBCARRIERS)
+        return refuse(s, 9, f.narrow);
+    if (!f.wide)
+        return refuse(s, 10, 0);
+    if (5 * f.gone > f.last - f.first)
+        return refuse(s, 11, 0);
+    if (f.crowded < SUBCARRIERS)
+        return refuse(s, 12, f.crowded);
+    if (f.long_window < SUBCARRIERS)
+        return refuse(s, 13, f.long_window);
+    if (f.short_window < SUBCARRIERS)
+        return refuse(s, 14, f.short_window);
+    s->n = f.last + 1 - f.first - f.gone - 16 - s->pilots;
+    return s->n > CELLS ? refuse(s, 15, 0) : 0;
+}
+
+static uint32_t judge(struct plan *s, const uint8_t *plan, size_t length)
+{
+    uint16_t rec[PILOTS];
+    struct ranges r;
+    uint32_t g = read_chain(s, plan, length, rec, &r);
+    if (g == 0)
+        g = take_pilots(s, rec);
+    return g == 0 ? measure_bands(s, r.edges) : g;
+}
+
+/* --- segments and placeholders --- */
+
+static uint32_t find_segments(const struct plan *s, struct segment *seg)
+{
+    uint16_t *out = (uint16_t *)seg;
+    uint64_t before = 1;
+    uint32_t n = 0;
+    for (uint32_t j = 0; j < WORDS; j++) {
+        uint64_t w = s->taken[j], e = w ^ (w << 1 | before);
+        before = w >> 63;
+        for (; e != 0; e &= e - 1)
+            out[n++] = (uint16_t)(64 * j + (uint32_t)__builtin_ctzll(e));
+    }
+    return n / 2;
+}
+
+/* Of each rank its subcarrier less `base`, modulo 128; 32 bytes past the last are written too. */
+static void ramps(const struct segment *seg, uint32_t segments, uint32_t base, uint8_t *to)
+{
+    uint8_t up[160];
+    for (int i = 0; i < 160; i++)
+        up[i] = i & 127;
+    for (uint32_t i = 0; i < segments; i++) {
+        uint32_t n = (uint32_t)(seg[i].end - seg[i].k), k = seg[i].k + SUBCARRIERS - base;
+        for (uint32_t j = 0; j < n; j += 32)
+            memcpy(to + j, up + ((k + j) & 127), 32);
+        to += n;
+    }
+}
+
+/* The rows with a placeholder: which they are, and 1 in the byte of each column that has one. */
+struct hits {
+    sixteen lane[129][2];
+    uint8_t row[129];
+};
+
+/* For each residue d of the row what a cell of each column is to be compared with: (d + 128 c) mod M. */
+static inline void find_wanted(uint32_t m, sixteen (*want)[2])
+{
+    uint8_t column[32];
+    for (uint32_t c = 0, v = 0, step = 128 % m; c < 32; c++) {
+        column[c] = (uint8_t)v;
+        v = v + step < m ? v + step : v + step - m;
+    }
+    memcpy(want[0], column, 32);
+    for (uint32_t d = 1; d < m; d++)
+        for (int h = 0; h < 2; h++) {
+            sixteen up = want[d - 1][h] + 1;
+            want[d][h] = up & (sixteen)(up != (uint8_t)m);
+        }
+}
+
+/* Compares all cells of a row at once, row after row by rising rank; the answer is how many rows have a placeholder. */
+static inline uint32_t find_hits(uint32_t m, uint32_t n, const uint8_t *away, struct hits *hits)
+{
+    uint32_t full = n >> 7, part = n & 127, rows = 0;
+    uint8_t keep[2][32];
+    sixteen want[32][2], kept[2][2], x[2];
+    uint64_t w[2];
+    find_wanted(m, want);
+    for (uint32_t c = 0; c < 32; c++) {
+        keep[0][c] = c < full;
+        keep[1][c] = c <= full;
+    }
+    memcpy(kept, keep, 64);
+    for (uint32_t i = 0; i < 128; i++) {
+        uint32_t a = REVERSED[i], more = a < part;
+        memcpy(x, away, 32);
+        for (int h = 0; h < 2; h++)
+            hits->lane[rows][h] = x[h] = (sixteen)(x[h] == want[REST[m][a]][h]) & kept[more][h];
+        hits->row[rows] = (uint8_t)a;
+        x[0] |= x[1];
+        memcpy(w, x, 16);
+        rows += (w[0] | w[1]) != 0;
+        away += full + more;
+    }
+    return rows;
+}
+
+/* The placeholders of the input symbol at a phase, rising; the answer is how many there are. Cell p, of row a = p mod 128 and column
+ * c = p div 128, is one if its subcarrier less L + 8 + phase is p mod M = (a mod M + 128 c) mod M, modulo 128. */
+static uint32_t find_holders(const struct plan *s, const struct segment *seg, uint32_t segments, uint32_t phase, uint16_t *holder)
+{
+    uint8_t away[CELLS + 64];
+    uint32_t holders = 0;
+    uint64_t words = 0, set[WORDS], w;
+    struct hits hits;
+    ramps(seg, segments, (s->l + 8 + phase) & 127, away);
+    uint32_t rows = find_hits(s->m, s->n, away, &hits);
+    memset(set, 0, sizeof set);
+    for (uint32_t i = 0; i < 4 * rows; i++) {
+        memcpy(&w, (const uint8_t *)hits.lane[i >> 2] + 8 * (i & 3), 8);
+        for (w = LITTLE64(w); w != 0; w &= w - 1) {
+            uint32_t p = hits.row[i >> 2] + 16 * (64 * (i & 3) + (uint32_t)__builtin_ctzll(w));
+            add(set, p);
+            words |= (uint64_t)1 << (p >> 6);
+        }
+    }
+    for (; words != 0; words &= words - 1) {
+        uint32_t j = (uint32_t)__builtin_ctzll(words);
+        for (w = set[j]; w != 0; w &= w - 1)
+            holder[holders++] = (uint16_t)(64 * j + (uint32_t)__builtin_ctzll(w));
+    }
+    return holders;
+}
+
+/* --- rows and ranks --- */
+
+#define LOWER(x, y) __builtin_shufflevector(x, y, 0, 8, 1, 9, 2, 10, 3, 11)
+#define UPPER(x, y) __builtin_shufflevector(x, y, 4, 12, 5, 13, 6, 14, 7, 15)
+
+/* Eight rows of eight turned into columns. */
+static inline void turn(eight *x)
+{
+    for (int round = 0; round < 3; round++) {
+        eight y[8];
+        for (int i = 0; i < 4; i++) {
+            y[2 * i] = LOWER(x[i], x[i + 4]);
+            y[2 * i + 1] = UPPER(x[i], x[i + 4]);
+        }
+        memcpy(x, y, sizeof y);
+    }
+}
+
+/* Where in rank order each row begins. */
+static void find_starts(uint32_t n, uint16_t *start)
+{
+    uint32_t rank = 0;
+    for (int i = 0; i < 128; i++) {
+        start[REVERSED[i]] = (uint16_t)rank;
+        rank += (n >> 7) + (REVERSED[i] < (n & 127));
+    }
+}
+
+/* Cells in cell order put in rank order. */
+static void to_ranks(const cell *cells, uint32_t n, uint16_t *line)
+{
+    uint32_t full = n >> 7, part = n & 127;
+    uint16_t start[128];
+    find_starts(n, start);
+    for (uint32_t a = 0; a < 128; a += 8) {
+        uint32_t c = 0;
+        eight x[8];
+        for (; c + 8 <= full; c += 8) {
+            for (uint32_t j = 0; j < 8; j++)
+                memcpy(&x[j], cells + 128 * (c + j) + a, 16);
+            turn(x);
+            for (uint32_t j = 0; j < 8; j++)
+                memcpy(line + start[a + j] + c, &x[j], 16);
+        }
+        if (full & 4) {
+            for (uint32_t j = 0; j < 4; j++) {
+                memcpy(&x[j], cells + 128 * (c + j) + a, 16);
+                x[j + 4] = x[j];
+            }
+            turn(x);
+            for (uint32_t j = 0; j < 8; j++)
+                memcpy(line + start[a + j] + c, &x[j], 8);
+            c += 4;
+        }
+        for (; c < full; c++)
+            for (uint32_t j = a; j < a + 8; j++)
+                line[start[j] + c] = cells[128 * c + j];
+        for (uint32_t j = a; j < a + 8 && j < part; j++)
+            line[start[j] + full] = cells[128 * full + j];
+    }
+}
+
+/* Cells in rank order put in cell order. */
+static void to_cells(const uint16_t *line, uint32_t n, cell *cells)
+{
+    uint32_t full = n >> 7, part = n & 127;
+    uint16_t start[128];
+    find_starts(n, start);
+    for (uint32_t a = 0; a < 128; a += 8) {
+        uint32_t c = 0;
+        eight x[8];
+        for (; c + 8 <= full; c += 8) {
+            for (uint32_t j = 0; j < 8; j++)
+                memcpy(&x[j], line + start[a + j] + c, 16);
+            turn(x);
+            for (uint32_t j = 0; j < 8; j++)
+                memcpy(cells + 128 * (c + j) + a, &x[j], 16);
+        }
+        for (; c < full; c++)
+            for (uint32_t j = a; j < a + 8; j++)
+                cells[128 * c + j] = line[start[j] + c];
+        for (uint32_t j = a; j < a + 8 && j < part; j++)
+            cells[128 * full + j] = line[start[j] + full];
+    }
+}
+
+/* --- the delay --- */
+
+/* Row r of the store, of the ring of m. */
+static inline const cell *ring(const struct plan *s, const uint8_t *store, uint32_t r)
+{
+    return (const cell *)store + (size_t)s->n * (r < s->m ? r : r - s->m);
+}
+
+/* Cell p from the row of its residue: for residue d, row `row` + d * step of the ring. Four residues at a time. */
+static void gather(const struct plan *s, const uint8_t *store, uint32_t row, uint32_t step, uint16_t *cells)
+{
+    uint32_t m = s->m, n = s->n, d = 0;
+    const cell *from[32];
+    for (; d < m; d++) {
+        from[d] = ring(s, store, row);
+        row = row < m ? row + step : row - m + step;
+    }
+    for (d = 0; d + 4 <= m; d += 4) {
+        const cell *a = from[d], *b = from[d + 1] + 1, *c = from[d + 2] + 2, *e = from[d + 3] + 3;
+        uint32_t p = d;
+        for (; p + 3 < n; p += m) {
+            uint16_t x[4] = {a[p], b[p], c[p], e[p]};
+            memcpy(cells + p, x, 8);
+        }
+        for (uint32_t j = 0; p + j < n && j < 4; j++)
+            cells[p + j] = from[d + j][p + j];
+    }
+    for (; d < m; d++)
+        for (uint32_t p = d; p < n; p += m)
+            cells[p] = from[d][p];
+}
+
+/* --- the symbol on the line --- */
+
+static void marks(const struct plan *s, cell *symbol)
+{
+    static const uint8_t distances[4] = {15, 24, 35, 47};
+    for (uint32_t k = s->l; k < s->l + 8; k++)
+        symbol[k] = PLC;
+    for (int i = 0; i < 4; i++) {
+        symbol[s->l - distances[i]] = CONTINUOUS;
+        symbol[s->l + 7 + distances[i]] = CONTINUOUS;
+    }
+    for (uint32_t i = 0; i < s->pilots; i++)
+        symbol[s->pilot[i]] = CONTINUOUS;
+}
+
+/* Cells in rank order go to their subcarriers, from the lowest up: a copy that is too long is written over by what comes after. */
+static void place(const struct plan *s, const struct segment *seg, uint32_t segments, const uint16_t *line, cell *symbol)
+{
+    uint32_t end = 0;
+    for (uint32_t i = 0; i < segments; i++) {
+        uint32_t k = seg[i].k, n = (uint32_t)(seg[i].end - k);
+        symbol[end++] = EXCLUDED;
+        for (; end < k; end++)
+            symbol[end] = EXCLUDED;
+        for (uint32_t j = 0; j < n; j += 16)
+            memcpy(symbol + k + j, line + j, 32);
+        line += n;
+        end = seg[i].end;
+    }
+    for (; end < SUBCARRIERS; end++)
+        symbol[end] = EXCLUDED;
+    marks(s, symbol);
+}
+
+/* Cells in rank order from their subcarriers. The answer is how many cells between them are not the mark of an excluded subcarrier. */
+static uint32_t fetch(const struct segment *seg, uint32_t segments, const cell *symbol, uint16_t *line)
+{
+    uint32_t end = 0;
+    uint16_t others = 0;
+    for (uint32_t i = 0; i < segments; i++) {
+        uint32_t k = seg[i].k, n = (uint32_t)(seg[i].end - k);
+        others += symbol[end++] != EXCLUDED;
+        for (; end < k; end++)
+            others += symbol[end] != EXCLUDED;
+        for (uint32_t j = 0; j < n; j += 16)
+            memcpy(line + j, symbol + k + j, 32);
+        line += n;
+        end = seg[i].end;
+    }
+    for (; end < SUBCARRIERS; end++)
+        others += symbol[end] != EXCLUDED;
+    return others;
+}
+
+/* The mark of a subcarrier at a phase, 0 for data. */
+static uint16_t mark(const struct plan *s, uint32_t k, uint32_t phase)
+{
+    if (!has(s->taken, k))
+        return (k - (s->l + 8) - phase) % 128 == 0 ? HOLDER : 0;
+    if (has(s->excluded, k))
+        return EXCLUDED;
+    return k - s->l < 8 ? PLC : CONTINUOUS;
+}
+
+static inline int is_data(uint16_t x)
+{
+    return (x & NO_DATA) == 0 || x == FILLER;
+}
+
+/* Whether every cell is its role's: the cells that are no data are counted, and those that must be marks looked at one by one. */
+static int all_right(const struct plan *s, uint32_t phase, const cell *symbol, const uint16_t *line, uint32_t others)
+{
+    static const uint8_t distances[4] = {15, 24, 35, 47};
+    uint16_t wrong = 0, no_data = 0, scattered = 0;
+    for (uint32_t r = 0; r < s->n; r++)
+        no_data += !is_data(line[r]);
+    for (uint32_t k = (s->l + 8 + phase) & 127; k < SUBCARRIERS; k += 128) {
+        uint16_t ranked = !has(s->taken, k);
+        scattered += ranked;
+        wrong |= ranked ? symbol[k] ^ HOLDER : 0;
+    }
+    for (uint32_t k = s->l; k < s->l + 8; k++)
+        wrong |= symbol[k] ^ PLC;
+    for (int i = 0; i < 4; i++)
+        wrong |= (symbol[s->l - distances[i]] ^ CONTINUOUS) | (symbol[s->l + 7 + distances[i]] ^ CONTINUOUS);
+    for (uint32_t i = 0; i < s->pilots; i++)
+        wrong |= symbol[s->pilot[i]] ^ CONTINUOUS;
+    return wrong == 0 && no_data == scattered && others == 16 + s->pilots;
+}
+
+/* The lowest subcarrier whose cell is not its role's. */
+static uint32_t first_wrong(const struct plan *s, uint32_t phase, const cell *symbol)
+{
+    uint32_t k = 0;
+    for (;; k++) {
+        uint16_t want = mark(s, k, phase);
+        if (want == 0 ? !is_data(symbol[k]) : symbol[k] != want)
+            return k;
+    }
+}
+
+/* --- data --- */
+
+static inline void fill_filler(cell *row, uint32_t n, const uint16_t *holder, uint32_t holders)
+{
+    for (uint32_t p = 0; p < n; p++)
+        row[p] = FILLER;
+    for (uint32_t i = 0; i < holders; i++)
+        row[holder[i]] = HOLDER;
+}
+
+static inline void fill_data(cell *row, uint32_t n, const uint16_t *holder, uint32_t holders, const cell *data)
+{
+    uint32_t p = 0;
+    for (uint32_t i = 0; i < holders; i++) {
+        memcpy(row + p, data, 2 * (holder[i] - p));
+        data += holder[i] - p;
+        p = holder[i];
+        row[p++] = HOLDER;
+    }
+    memcpy(row + p, data, 2 * (n - p));
+}
+
+static inline void take_data(cell *data, const cell *cells, uint32_t n, const uint16_t *holder, uint32_t holders)
+{
+    uint32_t p = 0;
+    for (uint32_t i = 0; i < holders; i++) {
+        memcpy(data, cells + p, 2 * (holder[i] - p));
+        data += holder[i] - p;
+        p = holder[i] + 1u;
+    }
+    memcpy(data, cells + p, 2 * (n - p));
+}
+
+/* --- the calls --- */
+
+static inline void put(uint8_t *at, uint32_t x)
+{
+    x = BIG32(x);
+    memcpy(at, &x, 4);
+}
+
+static uint32_t say(uint8_t *answer, size_t answer_len, uint32_t ground, uint32_t place, uint32_t phase, uint32_t row, uint32_t heard,
+                    uint32_t value)
+{
+    if (answer_len >= ANSWER) {
+        put(answer, place);
+        put(answer + 4, phase);
+        put(answer + 8, row);
+        put(answer + 12, heard);
+        put(answer + 16, value);
+    }
+    return ground;
+}
+
+uint32_t best_judge(const uint8_t *plan, size_t plan_len, uint8_t *answer, size_t answer_len)
+{
+    struct plan s;
+    if (answer_len < ANSWER)
+        return 21;
+    uint32_t g = judge(&s, plan, plan_len);
+    return say(answer, answer_len, g, g == 0 ? 0 : s.place, 0, 0, 0, g == 0 ? s.n : 0);
+}
+
+uint32_t best_role(const uint8_t *plan, size_t plan_len, uint32_t subcarrier, uint32_t phase, uint8_t *answer, size_t answer_len)
+{
+    struct plan s;
+    uint32_t role = 0;
+    if (answer_len < ANSWER)
+        return 21;
+    uint32_t g = judge(&s, plan, plan_len);
+    if (g == 0 && (subcarrier >= SUBCARRIERS || phase >= 128))
+        g = refuse(&s, 16, 0);
+    if (g == 0)
+        switch (mark(&s, subcarrier, phase)) {
+        case EXCLUDED: role = 1; break;
+        case PLC: role = 2; break;
+        case CONTINUOUS: role = 3; break;
+        case HOLDER: role = 4; break;
+        default: role = 5;
+        }
+    return say(answer, answer_len, g, g == 0 ? 0 : s.place, 0, 0, 0, role);
+}
+
+uint32_t best_data_count(const uint8_t *plan, size_t plan_len, uint32_t phase, uint8_t *answer, size_t answer_len)
+{
+    struct plan s;
+    struct segment seg[SEGMENTS];
+    uint16_t holder[CELLS];
+    uint32_t count = 0;
+    if (answer_len < ANSWER)
+        return 21;
+    uint32_t g = judge(&s, plan, plan_len);
+    if (g == 0 && phase >= 128)
+        g = refuse(&s, 16, 0);
+    if (g == 0)
+        count = s.n - find_holders(&s, seg, find_segments(&s, seg), phase, holder);
+    return say(answer, answer_len, g, g == 0 ? 0 : s.place, 0, 0, 0, count);
+}
+
+/* Grounds 1 to 15 of a plan, 16 and 17 of the phase, the row, the symbols heard and the store. */
+static uint32_t begin(struct plan *s, const uint8_t *plan, size_t plan_len, uint32_t phase, uint32_t row, uint32_t heard, size_t store_len)
+{
+    uint32_t g = judge(s, plan, plan_len);
+    if (g != 0)
+        return g;
+    if (phase >= 128 || row >= s->m || heard >= s->m)
+        return refuse(s, 16, 0);
+    return store_len / 2 < s->m * s->n ? refuse(s, 17, 0) : 0;
+}
+
+uint32_t best_fresh_emitter(const uint8_t *plan, size_t plan_len, uint32_t phase, uint8_t *store, size_t store_len,
+                            uint8_t *answer, size_t answer_len)
+{
+    struct plan s;
+    struct segment seg[SEGMENTS];
+    uint16_t holder[CELLS];
+    if (answer_len < ANSWER || store_len % 2 != 0)
+        return say(answer, answer_len, 21, 0, 0, 0, 0, 0);
+    uint32_t g = begin(&s, plan, plan_len, phase, 0, 0, store_len);
+    if (g != 0)
+        return say(answer, answer_len, g, s.place, 0, 0, 0, 0);
+    uint32_t segments = find_segments(&s, seg);
+    cell *row = (cell *)store;
+    fill_filler(row, s.n, holder, 0);
+    for (uint32_t r = s.m - 1; r > 0; r--) {
+        row += s.n;
+        fill_filler(row, s.n, holder, find_holders(&s, seg, segments, (phase + 128 - r) & 127, holder));
+    }
+    return say(answer, answer_len, 0, 0, phase, 0, 0, 0);
+}
+
+uint32_t best_fresh_receiver(const uint8_t *plan, size_t plan_len, uint32_t phase, uint8_t *store, size_t store_len,
+                             uint8_t *answer, size_t answer_len)
+{
+    struct plan s;
+    if (answer_len < ANSWER || store_len % 2 != 0)
+        return say(answer, answer_len, 21, 0, 0, 0, 0, 0);
+    uint32_t g = begin(&s, plan, plan_len, phase, 0, 0, store_len);
+    if (g != 0)
+        return say(answer, answer_len, g, s.place, 0, 0, 0, 0);
+    fill_filler((cell *)store, s.m * s.n, NULL, 0);
+    return say(answer, answer_len, 0, 0, phase, 0, 0, 0);
+}
+
+/* Sends what stands in the store: cell p from the row p mod M back. */
+static void send(const struct plan *s, const struct segment *seg, uint32_t segments, uint32_t row, const uint8_t *store, uint8_t *symbol)
+{
+    uint16_t cells[CELLS], line[CELLS + 16];
+    if (s->m == 1) {
+        to_ranks((const cell *)store, s->n, line);
+    } else {
+        gather(s, store, row, s->m - 1, cells);
+        to_ranks(cells, s->n, line);
+    }
+    place(s, seg, segments, line, (cell *)symbol);
+}
+
+static uint32_t sent(const struct plan *s, uint32_t phase, uint32_t row, uint8_t *answer, size_t answer_len)
+{
+    return say(answer, answer_len, 0, 0, (phase + 1) & 127, row + 1 == s->m ? 0 : row + 1, 0, 0);
+}
+
+uint32_t best_emit(const uint8_t *plan, size_t plan_len, uint32_t phase, uint32_t row, uint8_t *store, size_t store_len,
+                   const uint8_t *data, size_t data_len, uint8_t *symbol, size_t symbol_len, uint8_t *answer, size_t answer_len)
+{
+    struct plan s;
+    struct segment seg[SEGMENTS];
+    uint16_t holder[CELLS], over = 0;
+    const cell *x = (const cell *)data;
+    if (answer_len < ANSWER || (store_len | data_len | symbol_len) % 2 != 0)
+        return say(answer, answer_len, 21, 0, phase, row, 0, 0);
+    uint32_t g = begin(&s, plan, plan_len, phase, row, 0, store_len);
+    if (g == 0 && symbol_len != 2 * SUBCARRIERS)
+        g = refuse(&s, 17, 0);
+    if (g != 0)
+        return say(answer, answer_len, g, s.place, phase, row, 0, 0);
+    uint32_t segments = find_segments(&s, seg), holders = find_holders(&s, seg, segments, phase, holder);
+    if (data_len / 2 != s.n - holders)
+        return say(answer, answer_len, 18, 0, phase, row, 0, 0);
+    for (uint32_t i = 0; i < s.n - holders; i++)
+        over |= x[i];
+    if (over & NO_DATA) {
+        uint32_t i = 0;
+        while (!(x[i] & NO_DATA))
+            i++;
+        return say(answer, answer_len, 19, i, phase, row, 0, 0);
+    }
+    fill_data((cell *)store + (size_t)row * s.n, s.n, holder, holders, x);
+    send(&s, seg, segments, row, store, symbol);
+    return sent(&s, phase, row, answer, answer_len);
+}
+
+uint32_t best_flush(const uint8_t *plan, size_t plan_len, uint32_t phase, uint32_t row, uint8_t *store, size_t store_len,
+                    uint8_t *symbol, size_t symbol_len, uint8_t *answer, size_t answer_len)
+{
+    struct plan s;
+    struct segment seg[SEGMENTS];
+    uint16_t holder[CELLS];
+    if (answer_len < ANSWER || (store_len | symbol_len) % 2 != 0)
+        return say(answer, answer_len, 21, 0, phase, row, 0, 0);
+    uint32_t g = begin(&s, plan, plan_len, phase, row, 0, store_len);
+    if (g == 0 && symbol_len != 2 * SUBCARRIERS)
+        g = refuse(&s, 17, 0);
+    if (g != 0)
+        return say(answer, answer_len, g, s.place, phase, row, 0, 0);
+    uint32_t segments = find_segments(&s, seg), holders = find_holders(&s, seg, segments, phase, holder);
+    fill_filler((cell *)store + (size_t)row * s.n, s.n, holder, holders);
+    send(&s, seg, segments, row, store, symbol);
+    return sent(&s, phase, row, answer, answer_len);
+}
+
+uint32_t best_receive(const uint8_t *plan, size_t plan_len, uint32_t phase, uint32_t row, uint32_t heard, uint8_t *store,
+                      size_t store_len, const uint8_t *symbol, size_t symbol_len, uint8_t *data, size_t data_len,
+                      uint8_t *answer, size_t answer_len)
+{
+    struct plan s;
+    struct segment seg[SEGMENTS];
+    uint16_t holder[CELLS], cells[CELLS], line[CELLS + 16];
+    uint32_t holders = 0, count = 0;
+    if (answer_len < ANSWER || (store_len | symbol_len | data_len) % 2 != 0)
+        return say(answer, answer_len, 21, 0, phase, row, heard, 0);
+    uint32_t g = begin(&s, plan, plan_len, phase, row, heard, store_len);
+    if (g == 0 && symbol_len != 2 * SUBCARRIERS)
+        g = refuse(&s, 17, 0);
+    if (g != 0)
+        return say(answer, answer_len, g, s.place, phase, row, heard, 0);
+    uint32_t segments = find_segments(&s, seg), next = row + 1 == s.m ? 0 : row + 1, warming = heard + 1 < s.m;
+    if (!warming) {
+        holders = find_holders(&s, seg, segments, (phase + 129 - s.m) & 127, holder);
+        count = s.n - holders;
+        if (data_len / 2 < count)
+            return say(answer, answer_len, 17, 0, phase, row, heard, 0);
+    }
+    uint32_t others = fetch(seg, segments, (const cell *)symbol, line);
+    if (!all_right(&s, phase, (const cell *)symbol, line, others))
+        return say(answer, answer_len, 20, first_wrong(&s, phase, (const cell *)symbol), phase, row, heard, 0);
+    to_cells(line, s.n, (cell *)store + (size_t)row * s.n);
+    if (s.m == 1) {
+        take_data((cell *)data, (const cell *)store, s.n, holder, holders);
+    } else if (!warming) {
+        gather(&s, store, next, 1, cells);
+        take_data((cell *)data, cells, s.n, holder, holders);
+    }
+    return say(answer, answer_len, 0, 0, (phase + 1) & 127, next, heard + warming, count);
+}

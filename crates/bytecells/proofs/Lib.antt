@@ -1,0 +1,2 @@
+pub mod OctetLaws
+pub mod Filled

@@ -1,0 +1,123 @@
+// Cells as two bytes, high byte first: bytes of whole cells told from others, cells read and written. specs/ByteSteps says what an entry
+// over such cells answers and leaves.
+ghost use mathlib.Core.Path.{_≡_};
+ghost use mathlib.Core.Bool.{false};
+ghost use Prim.Native.Nat.{_+_, _*_, _/_, _%_, _≤_, _<_};
+ghost use lib.ListN.{length, getD, replicate};
+ghost use lib.Seq.{sets};
+ghost use Rattle.counting.specs.Search.{tabulate};
+ghost use Rattle.bytecells.specs.Octets.{cellsOf, bytesOf, odd, Octets, Whole};
+ghost use Rattle.bytecells.specs.Swapped.{lowFirst, swapped};
+
+// The cell of two bytes.
+pub fn join(high: u8, low: u8) -> u16
+    ensures { λ r. ⌜ r ≡ high * 256 + low ⌝ }
+{
+    (high as u16) * 256 + (low as u16)
+}
+
+// The high byte of a cell.
+fn high_byte(x: u16) -> u8
+    ensures { λ r. ⌜ r ≡ x / 256 ⌝ }
+{
+    (x / 256) as u8
+}
+
+// The low byte of a cell.
+fn low_byte(x: u16) -> u8
+    ensures { λ r. ⌜ r ≡ x % 256 ⌝ }
+{
+    (x % 256) as u8
+}
+
+// A byte, which is below 256.
+fn octet(x: u8) -> u8
+    ensures { λ r. ⌜ (r ≡ x) × (r < 256) ⌝ }
+{
+    x
+}
+
+// Shows that every number of a list of bytes is a byte's. It changes nothing and answers nothing, and the compiler drops it.
+fn octets(b: &[u8])
+    ensures { λ _. ⌜ Octets (now (b .entry)) ⌝ }
+{
+    let mut i = 0;
+    while i < b.len() {
+        octet(b[i]);
+        i += 1;
+    }
+}
+
+// Whether the bytes have odd length (ground 21); else they are those of whole cells.
+pub fn halved(b: &[u8]) -> bool
+    ensures { λ r. ⌜ (r ≡ odd (now (b .entry))) × (r ≡ false → Whole (now (b .entry))) ⌝ }
+{
+    octets(b);
+    b.len() % 2 == 1
+}
+
+// Reads each two bytes as a number, low byte first: as the machine has them, so that the compiler copies.
+fn read_pairs(b: &[u8], cells: &mut [u16])
+    requires { ⌜ length (now b) ≡ 2 * length (now cells) ⌝ }
+    ensures { λ _. ⌜ now (cells .exit) ≡ tabulate (lowFirst (now (b .entry))) (length (now (cells .entry))) ⌝ }
+{
+    let mut i = 0;
+    while i < cells.len() {
+        cells[i] = join(b[2 * i + 1], b[2 * i]);
+        i += 1;
+    }
+}
+
+// A cell with its bytes swapped.
+fn swap(x: u16) -> u16
+    ensures { λ r. ⌜ r ≡ swapped x ⌝ }
+{
+    (x % 256) * 256 + x / 256
+}
+
+// Swaps the bytes of each cell.
+fn swap_cells(cells: &mut [u16])
+    ensures { λ _. ⌜ now (cells .exit) ≡ tabulate (λ i. swapped (getD (now (cells .entry)) i 0)) (length (now (cells .entry))) ⌝ }
+{
+    let mut i = 0;
+    while i < cells.len() {
+        cells[i] = swap(cells[i]);
+        i += 1;
+    }
+}
+
+// Reads each cell of the bytes, in two passes that go over many cells at once: one pass would take the bytes one by one.
+pub fn read_cells(b: &[u8], cells: &mut [u16])
+    requires { ⌜ length (now b) ≡ 2 * length (now cells) ⌝ }
+    ensures { λ _. ⌜ now (cells .exit) ≡ cellsOf (now (b .entry)) ⌝ }
+{
+    octets(b);
+    read_pairs(b, cells);
+    swap_cells(cells);
+}
+
+// Writes the cells x as bytes, from cell `at` on.
+pub fn write_cells(b: &mut [u8], at: usize, x: &[u16])
+    requires { ⌜ 2 * (at + length (now x)) ≤ length (now b) ⌝ }
+    ensures { λ _. ⌜ now (b .exit) ≡ sets (now (b .entry)) (2 * at) (bytesOf (now (x .entry))) ⌝ }
+{
+    let mut i = 0;
+    while i < x.len() {
+        b[2 * (at + i)] = high_byte(x[i]);
+        b[2 * (at + i) + 1] = low_byte(x[i]);
+        i += 1;
+    }
+}
+
+// Writes the cell x as bytes into the first n cells.
+pub fn write_same(b: &mut [u8], n: usize, x: u16)
+    requires { ⌜ 2 * n ≤ length (now b) ⌝ }
+    ensures { λ _. ⌜ now (b .exit) ≡ sets (now (b .entry)) 0 (bytesOf (replicate n x)) ⌝ }
+{
+    let mut i = 0;
+    while i < n {
+        b[2 * i] = high_byte(x);
+        b[2 * i + 1] = low_byte(x);
+        i += 1;
+    }
+}

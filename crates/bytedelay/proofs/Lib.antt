@@ -1,0 +1,3 @@
+pub mod ByteRing
+pub mod RowLaws
+pub mod LiftLaws

@@ -1,0 +1,210 @@
+-- `byteemitter::send_in` meets its contract: one law for each return, and what grounds 16 and 17 leave for the calls. Assumes nothing.
+use borrow.Author.Needs.{needs}
+use Prim.Native.Nat.{ℕ, _*_}
+use mathlib.Core.Path.{_≡_, refl, sym, ap, _∙_, subst}
+use native.Mathlib.Omega.{arith}
+use lib.ListN.{length}
+use Rattle.rules.specs.Plan.{planOf}
+use Rattle.rules.specs.Frame.{Frame, frameOf, cells}
+use Rattle.rules.specs.Steps.{Emitter, Send}
+use Rattle.bytecells.specs.Octets.{cellsOf}
+use Rattle.bytecells.proofs.OctetLaws.{length-cells, whole-length}
+use Rattle.steps.specs.Ready.{Ready, readyAnswer}
+use Rattle.steps.proofs.Lent.{ready-refused}
+use Rattle.sending.specs.Sent.{givenBy, at, giving}
+use Rattle.sending.proofs.Answers.{refused-lent, refused-given, sent}
+use Rattle.sending.proofs.Cleared.{Cleared, cleared}
+use Rattle.byteemitter.proofs.ByteAnswers.{as-bytes, unchanged}
+use Rattle.byteemitter.proofs.send_in.Statement.{statement}
+use Rattle.byteemitter.proofs.send_in.Tie as tie
+
+-- the frame of the plan, the emitter, and what the step is given
+abbrev frame : tie.Start → Frame
+frame g = frameOf (g .args .d) (planOf (g .args .plan .now))
+
+abbrev emitter : tie.Start → Emitter
+emitter g = at (g .args .state) (cellsOf (g .args .store .now))
+
+abbrev asked : tie.Start → Send
+asked g = giving (givenBy (g .args .flushing) (cellsOf (g .args .input .now))) (cellsOf (g .args .symbol .now))
+
+-- the depth
+deep : (c : tie.After-number-at) → c .number-at .result ≡ planOf (c .before .before .before .before .before .before .before .before .before .before .before .args .plan .now) .depth
+unfolding planOf
+deep c = c .number-at .ensures .0
+
+-- grounds 16 and 17 answer for the cells of store and symbol
+Answered : tie.After-ready → Type 0
+Answered c = let g = c .before .before .before .before .before .before .before .before .before .before .before .before .before .before .before .before in let a = g .args in c .ready .result ≡ readyAnswer (frame g) (a .state .phase) (a .state .row) (cellsOf (a .store .now)) (cellsOf (a .symbol .now)) (a .state .phase)
+
+answered : (c : tie.After-ready) → Answered c
+unfolding Answered
+answered c = let a = c .before .before .before .before .before .before .before .before .before .before .before .before .before .before .before .before .args in c .ready .ensures .0 _ _ (length-cells (a .store .now)) (length-cells (a .symbol .now))
+
+-- and are passed
+clear : (c : tie.After-known-told2) → Cleared (frame (c .before .before .before .before .before .before .before .before .before .before .before .before .before .before .before .before .before .before .before .before .before .before .before .before .before)) (emitter (c .before .before .before .before .before .before .before .before .before .before .before .before .before .before .before .before .before .before .before .before .before .before .before .before .before)) (cellsOf (c .before .before .before .before .before .before .before .before .before .before .before .before .before .before .before .before .before .before .before .before .before .before .before .before .before .args .symbol .now)) (c .before .n .given .0 .0) (c .before .before .before .before .before .before .before .before .before .ready .last .1 .1 .1 .1 .1 .1 .1 .1 .1 .0) (c .before .before .before .before .before .before .before .before .before .ready .last .1 .1 .1 .1 .1 .1 .1 .1 .1 .1 .0) (c .before .before .before .before .before .before .before .before .before .ready .last .1 .1 .1 .1 .1 .1 .1 .1 .1 .1 .1 .0)
+unfolding Answered
+clear c = cleared (frame (c .before .before .before .before .before .before .before .before .before .before .before .before .before .before .before .before .before .before .before .before .before .before .before .before .before)) (emitter (c .before .before .before .before .before .before .before .before .before .before .before .before .before .before .before .before .before .before .before .before .before .before .before .before .before)) (cellsOf (c .before .before .before .before .before .before .before .before .before .before .before .before .before .before .before .before .before .before .before .before .before .before .before .before .before .args .symbol .now)) _ _ _ _ _ (c .before .n .given .1) (answered (c .before .before .before .before .before .before .before .before .before)) (c .before .before .before .before .before .before .before .before .before .ready .ensures .1)
+
+number-at-requires : tie.Need-number-at-requires
+number-at-requires c κs = search needs
+
+cast-j : tie.Need-cast-j
+cast-j c = search needs
+
+ready-requires : tie.Need-ready-requires
+ready-requires c κs =
+    let g = c .before .before .before .before .before .before .before .before .before .before .before .before .before .before .before in
+    let size = g .pre .2 in
+    (subst (λ (n : ℕ). Ready (g .args .d) (g .args .plan .now) n (g .args .marks .now)) (sym size) (g .pre .0), deep (c .before .before .before .before), c .before .before .before .before .number-at .ensures .1, λ h. omega (arith, h), g .pre .1, omega (arith, g .pre .3, size))
+
+enum-known-g : tie.Need-enum-known-g
+enum-known-g c = search needs
+
+enum-known-n : tie.Need-enum-known-n
+enum-known-n c = search needs
+
+cast-nd : tie.Need-cast-nd
+cast-nd c = search needs
+
+fill-bytes-requires : tie.Need-fill-bytes-requires
+fill-bytes-requires c κs =
+    let g = c .before .before .before .before .before .before .before .before .before .before .before .before .before .before .before .before .before .before .before .before .before .before .before .before .before .before .before .before in
+    let w = clear (c .before .before .before) in
+    (g .pre .0 .fits, g .pre .0 .all, omega (arith, c .before .before .before .before .before .before .before .before .before .before .before .before .ready .kept .1 .1 .1 .1 .1 .1 .1 .1 .1 .1 .1 .0, g .pre .3), w .made .flags, w .number, g .pre .4, g .pre .7)
+
+enum-known-found : tie.Need-enum-known-found
+enum-known-found c = search needs
+
+same-length : tie.Need-same-length
+same-length c = search needs
+
+same-length-2 : tie.Need-same-length-2
+same-length-2 c = search needs
+
+same-length-3 : tie.Need-same-length-3
+same-length-3 c = search needs
+
+same-length-4 : tie.Need-same-length-4
+same-length-4 c = search needs
+
+same-length-5 : tie.Need-same-length-5
+same-length-5 c = search needs
+
+returns : tie.Need-returns
+returns c =
+    let g = c .before .before .before .before .before .before .before .before .before .before .before .before .before .before .before .before .before .before .before .before .before .before .before .before .before .before .before .before .before .before .before .before .before .before .before .before in
+    unchanged _ (g .args .store .now) (g .args .symbol .now) _ (g .pre .6) (g .pre .8)
+    (refused-given (g .args .d) (g .args .plan .now) (emitter g) (asked g) (g .pre .0 .fine) (clear (c .before .before .before .before .before .before .before .before .before .before .before) .passed) _ _ (sym (c .before .found .given .1) ∙ c .before .before .before .before .before .before .before .fill-bytes .ensures .0))
+
+enum-told : tie.Need-enum-told
+enum-told c = search needs
+
+cast-row : tie.Need-cast-row
+cast-row c = search needs
+
+send-out-requires : tie.Need-send-out-requires
+unfolding frameOf
+send-out-requires c κs =
+    let g = c .before .before .before .before .before .before .before .before .before .before .before .before .before .before .before .before .before .before .before .before .before .before .before .before .before .before .before .before .before .before .before .before .before .before .before .before .before .before .before .before .before in
+    let r = g .pre .0 in
+    let m = deep (c .before .before .before .before .before .before .before .before .before .before .before .before .before .before .before .before .before .before .before .before .before .before .before .before .before .before .before .before .before .before) in
+    let w = clear (c .before .before .before .before .before .before .before .before .before .before .before .before .before .before .before .before) in
+    let fill = c .before .before .before .before .before .before .before .before .before .before .before .before .fill-bytes in
+    let all : length (fill .last .1 .1 .1 .1 .1 .1 .1 .1 .0) ≡ cells (frame g) = fill .kept .1 .1 .1 .1 .1 .1 .1 .1 .0 ∙ r .all in
+    let size : c .before .before .before .before .before .before .before .before .before .before .before .before .before .before .before .before .before .before .before .before .before .before .before .before .before .before .before .before .before .before .number-at .result * length (fill .last .1 .1 .1 .1 .1 .1 .1 .1 .0) ≡ frame g .depth * cells (frame g) = λ i. m i * all i in
+    (r .fits, r .studied, omega (arith, m, w .fit .row-in), omega (arith, m, r .shallow), all, g .pre .6, omega (arith, size, w .fit .rows-fit, whole-length (g .args .store .now) (g .pre .6)), g .pre .5, whole-length (g .args .symbol .now) (g .pre .8) ∙ ap (λ (n : ℕ). 2 * n) (w .fit .whole), c .before .before .before .before .before .before .before .before .before .before .before .before .before .before .before .before .before .before .before .before .before .before .before .before .before .ready .kept .1 .1 .1 .1 .1 .1 .1 .1 .1 .0 ∙ g .pre .1, λ i h. w .made .ranks i (omega (arith, h, all)))
+
+next-state-requires : tie.Need-next-state-requires
+unfolding frameOf
+next-state-requires c κs =
+    let m = deep (c .before .before .before .before .before .before .before .before .before .before .before .before .before .before .before .before .before .before .before .before .before .before .before .before .before .before .before .before .before .before .before .before .before .before .before .before .before .before .before) in
+    let w = clear (c .before .before .before .before .before .before .before .before .before .before .before .before .before .before .before .before .before .before .before .before .before .before .before .before .before) in
+    (w .fit .phase-in, omega (arith, m, w .fit .row-in), omega (arith, m, c .before .before .before .before .before .before .before .before .before .before .before .before .before .before .before .before .before .before .before .before .before .before .before .before .before .before .before .before .before .before .before .before .before .before .before .before .before .before .before .before .before .before .before .before .before .before .before .before .before .before .pre .0 .shallow))
+
+same-length-6 : tie.Need-same-length-6
+same-length-6 c = search needs
+
+same-length-7 : tie.Need-same-length-7
+same-length-7 c = search needs
+
+same-length-8 : tie.Need-same-length-8
+same-length-8 c = search needs
+
+returns-2 : tie.Need-returns-2
+unfolding Answered
+returns-2 c =
+    let g = c .before .before .before .before .before .before .before .before .before .before .before .before .before .before .before .before .before .before .before .before .before .before .before .before .before in
+    let a = g .args in
+    unchanged _ (a .store .now) (a .symbol .now) _ (g .pre .6) (g .pre .8)
+    (refused-lent (a .d) (a .plan .now) (emitter g) (asked g) (g .pre .0 .fine) _ _
+    (ready-refused (frame g) (a .state .phase) (a .state .row) (cellsOf (a .store .now)) (cellsOf (a .symbol .now)) (a .state .phase) _ _ (sym (c .before .g .given .1) ∙ answered (c .before .before .before .before .before .before .before .before .before))))
+
+same-length-9 : tie.Need-same-length-9
+same-length-9 c = search needs
+
+same-length-10 : tie.Need-same-length-10
+same-length-10 c = search needs
+
+same-length-11 : tie.Need-same-length-11
+same-length-11 c = c .before .before .before .before .before .before .before .before .before .before .before .before .before .before .before .before .before .before .before .before .before .before .before .before .before .before .before .before .before .before .before .before .before .before .before .ready .kept .1 .1 .1 .1 .1 .1 .1 .1 .1 .0
+
+same-length-12 : tie.Need-same-length-12
+same-length-12 c = c .before .before .before .before .before .before .before .before .before .before .before .before .before .before .before .before .before .before .before .before .before .before .before .before .before .before .before .before .before .before .before .before .before .before .before .ready .kept .1 .1 .1 .1 .1 .1 .1 .1 .1 .1 .0
+
+same-length-13 : tie.Need-same-length-13
+same-length-13 c = c .before .before .before .before .before .before .before .before .before .before .before .before .before .before .before .before .before .before .before .before .before .before .before .before .before .before .before .before .before .before .before .before .before .before .before .ready .kept .1 .1 .1 .1 .1 .1 .1 .1 .1 .1 .1 .0
+
+same-length-14 : tie.Need-same-length-14
+same-length-14 c = search needs
+
+same-length-15 : tie.Need-same-length-15
+same-length-15 c = search needs
+
+same-length-16 : tie.Need-same-length-16
+same-length-16 c = search needs
+
+returns-3 : tie.Need-returns-3
+returns-3 c =
+    let g = c .before .before .before .before .before .before .before .before .before .before .before .before .before .before .before .before .before .before .before .before .before .before .before .before .before .before .before .before .before .before .before .before .before .before .before .before .before .before .before .before .before .before .before .before .before .before .before .before .before .before .before in
+    let fill = c .before .before .before .before .before .before .before .before .before .before .before .before .before .before .before .before .before .before .before .before .before .before .fill-bytes in
+    let told = c .before .before .before .before .before .before .before .before .before .before .before .before .before .before .before .before .enum-told .given .1 in
+    as-bytes _ _ _ _ _ _ (c .before .before .before .before .before .before .before .before .before .send-out .ensures .0) (c .before .before .before .before .before .before .before .before .before .send-out .ensures .1)
+    (sent (g .args .d) (g .args .plan .now) (emitter g) (asked g) (g .pre .0 .fine) (clear (c .before .before .before .before .before .before .before .before .before .before .before .before .before .before .before .before .before .before .before .before .before .before .before .before .before .before) .passed) (sym told ∙ fill .ensures .0) _ _ _ _ _ _ (deep (c .before .before .before .before .before .before .before .before .before .before .before .before .before .before .before .before .before .before .before .before .before .before .before .before .before .before .before .before .before .before .before .before .before .before .before .before .before .before .before .before))
+    (fill .kept .1 .1 .1 .1 .1 .1 .1 .1 .0 ∙ g .pre .0 .all) (fill .ensures .1 told) refl refl (c .next-state .ensures))
+
+pub send-in-spec : {M : Type 1} → statement M
+send-in-spec =
+    tie.close
+    (tie.spec
+    number-at-requires
+    cast-j
+    ready-requires
+    enum-known-g
+    enum-known-n
+    cast-nd
+    fill-bytes-requires
+    enum-known-found
+    same-length
+    same-length-2
+    same-length-3
+    same-length-4
+    same-length-5
+    returns
+    enum-told
+    cast-row
+    send-out-requires
+    next-state-requires
+    same-length-6
+    same-length-7
+    same-length-8
+    returns-2
+    same-length-9
+    same-length-10
+    same-length-11
+    same-length-12
+    same-length-13
+    same-length-14
+    same-length-15
+    same-length-16
+    returns-3)

@@ -1,0 +1,16 @@
+-- `carriers::one_if_zero` meets its contract. Assumes nothing.
+use borrow.Author.Needs.{needs}
+use mathlib.Core.Path.{sym, ap}
+use borrow.Author.Tests.{eq-eqb, ne-eqb}
+use Rattle.counting.specs.Search.{bit}
+use Rattle.carriers.proofs.one_if_zero.Statement.{statement}
+use Rattle.carriers.proofs.one_if_zero.Tie as tie
+
+returns : tie.Need-returns
+returns c = (sym (ap bit (eq-eqb _ _ (c .if1 .taken))), search needs)
+
+returns-2 : tie.Need-returns-2
+returns-2 c = (sym (ap bit (ne-eqb _ _ (c .if1 .left))), search needs)
+
+pub one-if-zero-spec : {M : Type 1} → statement M
+one-if-zero-spec = tie.close (tie.spec returns returns-2)

@@ -1,0 +1,29 @@
+-- `headend::told_count` meets its contract. Assumes nothing.
+use borrow.Author.Needs.{needs}
+use mathlib.Core.Path.{sym, ap, _∙_}
+use Rattle.headend.specs.Answer.{toldCount}
+use Rattle.headend.proofs.told_count.Statement.{statement}
+use Rattle.headend.proofs.told_count.Tie as tie
+
+enum-known-a : tie.Need-enum-known-a
+enum-known-a c = search needs
+
+valued-requires : tie.Need-valued-requires
+valued-requires c κs = search needs
+
+enum-known-a-2 : tie.Need-enum-known-a-2
+enum-known-a-2 c = search needs
+
+refusal-requires : tie.Need-refusal-requires
+refusal-requires c κs = search needs
+
+returns : tie.Need-returns
+returns c = c .valued .ensures ∙ sym (ap toldCount (c .before .before .a .given .1))
+
+returns-2 : tie.Need-returns-2
+returns-2 c = c .refusal .ensures ∙ sym (ap toldCount (c .before .before .a2 .given .1))
+
+pub told-count-spec : {M : Type 1} → statement M
+told-count-spec =
+    tie.close
+    (tie.spec enum-known-a valued-requires enum-known-a-2 refusal-requires returns returns-2)

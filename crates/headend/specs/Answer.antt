@@ -1,0 +1,91 @@
+-- What a call for a C host returns and writes into its answer buffer (request 01; docs/C-HOST.md): 01's number and values for each answer
+-- of an entry, and their layout as bytes. Assumes nothing.
+use Prim.Native.Nat.{ℕ, _/_, _%_}
+use mathlib.Core.Bool.{Bool}
+use mathlib.Core.List.{List, [], _∷_, _++_}
+use lib.Dec.{ltb}
+use lib.ListN.{length}
+use lib.Seq.{sets}
+use Rattle.rules.specs.declared.Role.{Role}
+use Rattle.rules.specs.declared.Role.the-variants.{Excluded, Plc, Continuous, Scattered, Data}
+use Rattle.rules.specs.declared.Verdict.{Verdict}
+use Rattle.rules.specs.declared.Verdict.the-variants as a-verdict
+use Rattle.rules.specs.declared.RoleAnswer.{RoleAnswer}
+use Rattle.rules.specs.declared.RoleAnswer.the-variants as a-role
+use Rattle.rules.specs.declared.CountAnswer.{CountAnswer}
+use Rattle.rules.specs.declared.CountAnswer.the-variants as a-count
+use Rattle.rules.specs.declared.StartAnswer.{StartAnswer}
+use Rattle.rules.specs.declared.StartAnswer.the-variants as a-start
+use Rattle.rules.specs.declared.ListenAnswer.{ListenAnswer}
+use Rattle.rules.specs.declared.ListenAnswer.the-variants as a-listen
+use Rattle.rules.specs.declared.SendAnswer.{SendAnswer}
+use Rattle.rules.specs.declared.SendAnswer.the-variants as a-send
+use Rattle.rules.specs.declared.ReceiveAnswer.{ReceiveAnswer}
+use Rattle.rules.specs.declared.ReceiveAnswer.the-variants as a-receive
+use Rattle.headend.specs.declared.Told.{Told}
+
+-- ---- the layout
+
+-- a number as four bytes, high byte first
+unfoldable pub four : ℕ → List ℕ
+four x = (x / 16777216) ∷ (x / 65536 % 256) ∷ (x / 256 % 256) ∷ (x % 256) ∷ []
+
+-- place, phase, row, heard and value, four bytes each
+unfoldable pub layout : Told → List ℕ
+layout t = four (t .place) ++ four (t .phase) ++ four (t .row) ++ four (t .heard) ++ four (t .value)
+
+-- 21: too short an answer buffer
+unfoldable pub short : List ℕ → Bool
+short a = ltb (length a) 20
+
+-- the answer at the start of the buffer; bytes past it are untouched
+unfoldable pub written : List ℕ → Told → List ℕ
+written a t = sets a 0 (layout t)
+
+-- ---- the numbers of each answer; what an answer does not give is 0
+
+abbrev pub roleNumber : Role → ℕ
+roleNumber Excluded = 1
+roleNumber Plc = 2
+roleNumber Continuous = 3
+roleNumber Scattered = 4
+roleNumber Data = 5
+
+-- a value, and no state
+abbrev pub valued : ℕ → Told
+valued x = record { number = 0; place = 0; phase = 0; row = 0; heard = 0; value = x }
+
+-- refused, and no state
+abbrev pub refusal : ℕ → ℕ → Told
+refusal n p = record { number = n; place = p; phase = 0; row = 0; heard = 0; value = 0 }
+
+abbrev pub toldVerdict : Verdict → Told
+toldVerdict (a-verdict.Accepted n) = valued n
+toldVerdict (a-verdict.Refused n p) = refusal n p
+
+abbrev pub toldRole : RoleAnswer → Told
+toldRole (a-role.Is r) = valued (roleNumber r)
+toldRole (a-role.Refused n p) = refusal n p
+
+abbrev pub toldCount : CountAnswer → Told
+toldCount (a-count.Count n) = valued n
+toldCount (a-count.Refused n p) = refusal n p
+
+abbrev pub toldStart : StartAnswer → Told
+toldStart (a-start.Started e) = record { number = 0; place = 0; phase = e .phase; row = e .row; heard = 0; value = 0 }
+toldStart (a-start.Refused n p) = refusal n p
+
+abbrev pub toldListen : ListenAnswer → Told
+toldListen (a-listen.Started v) = record { number = 0; place = 0; phase = v .phase; row = v .row; heard = v .heard; value = 0 }
+toldListen (a-listen.Refused n p) = refusal n p
+
+-- the next state, or the state as it was given
+abbrev pub toldSend : SendAnswer → Told
+toldSend (a-send.Sent e) = record { number = 0; place = 0; phase = e .phase; row = e .row; heard = 0; value = 0 }
+toldSend (a-send.Refused n p e) = record { number = n; place = p; phase = e .phase; row = e .row; heard = 0; value = 0 }
+
+-- the same, and the count of data cells handed out: none while warming
+abbrev pub toldReceive : ReceiveAnswer → Told
+toldReceive (a-receive.Warming v) = record { number = 0; place = 0; phase = v .phase; row = v .row; heard = v .heard; value = 0 }
+toldReceive (a-receive.Data v n) = record { number = 0; place = 0; phase = v .phase; row = v .row; heard = v .heard; value = n }
+toldReceive (a-receive.Refused n p v) = record { number = n; place = p; phase = v .phase; row = v .row; heard = v .heard; value = 0 }

@@ -1,0 +1,87 @@
+-- The calls for a C host (request 01): too short an answer buffer is ground 21 and leaves all as it is; else a call returns and leaves what
+-- the entry beneath it answers and leaves. Assumes nothing.
+use Prim.Native.Nat.{ℕ}
+use mathlib.Core.List.{List}
+use Rattle.counting.specs.Search.{pick}
+use Rattle.rules.specs.declared.Device.{Device}
+use Rattle.rules.specs.Grounds.{verdict}
+use Rattle.rules.specs.Answers.{roleAnswer}
+use Rattle.rules.specs.Steps.{Starting, Sending, dataCountAnswer}
+use Rattle.rules.specs.Receive.{Listening, Receiving}
+use Rattle.bytecells.specs.ByteSteps.{startBytes, listenBytes, emitBytes, flushBytes, receiveBytes}
+use Rattle.headend.specs.declared.Told.{Told}
+use Rattle.headend.specs.Answer.{short, written, toldVerdict, toldRole, toldCount, toldStart, toldListen, toldSend, toldReceive}
+
+-- what a call returns, and what it leaves in the answer buffer
+pub record Said : Type 0 where
+  pub number : ℕ
+  pub answer : List ℕ
+
+abbrev pub says : ℕ → List ℕ → Said
+says n a = record { number = n; answer = a }
+
+-- a call that is told t
+abbrev pub telling : List ℕ → Told → Said
+telling a t = pick (short a) (says 21 a) (says (t .number) (written a t))
+
+-- the same, with the lent store
+pub record StoreSaid : Type 0 where
+  pub said : Said
+  pub store : List ℕ
+
+abbrev pub saysStore : ℕ → List ℕ → List ℕ → StoreSaid
+saysStore n st a = record { said = says n a; store = st }
+
+-- the same, with the lent store and the lent symbol or data buffer
+pub record StepSaid : Type 0 where
+  pub said : Said
+  pub store : List ℕ
+  pub cells : List ℕ
+
+abbrev pub saysStep : ℕ → List ℕ → List ℕ → List ℕ → StepSaid
+saysStep n st y a = record { said = says n a; store = st; cells = y }
+
+-- what a call says of what the entry beneath it answered and left
+abbrev pub startTold : Starting → List ℕ → StoreSaid
+startTold r a = saysStore (toldStart (r .answer) .number) (r .store) (written a (toldStart (r .answer)))
+
+abbrev pub listenTold : Listening → List ℕ → StoreSaid
+listenTold r a = saysStore (toldListen (r .answer) .number) (r .store) (written a (toldListen (r .answer)))
+
+abbrev pub sendTold : Sending → List ℕ → StepSaid
+sendTold r a = saysStep (toldSend (r .answer) .number) (r .store) (r .symbol) (written a (toldSend (r .answer)))
+
+abbrev pub receiveTold : Receiving → List ℕ → StepSaid
+receiveTold r a = saysStep (toldReceive (r .answer) .number) (r .store) (r .buffer) (written a (toldReceive (r .answer)))
+
+module _ (d : Device) (s : List ℕ) where
+  unfoldable pub judgeCall : List ℕ → Said
+  judgeCall a = telling a (toldVerdict (verdict d s))
+
+  -- the subcarrier and the phase
+  unfoldable pub roleCall : ℕ → ℕ → List ℕ → Said
+  roleCall k j a = telling a (toldRole (roleAnswer d s k j))
+
+  -- the phase
+  unfoldable pub countCall : ℕ → List ℕ → Said
+  countCall j a = telling a (toldCount (dataCountAnswer d s j))
+
+  -- the starting phase and the lent store
+  unfoldable pub startCall : ℕ → List ℕ → List ℕ → StoreSaid
+  startCall j store a = pick (short a) (saysStore 21 store a) (startTold (startBytes d s j store) a)
+
+  unfoldable pub listenCall : ℕ → List ℕ → List ℕ → StoreSaid
+  listenCall j store a = pick (short a) (saysStore 21 store a) (listenTold (listenBytes d s j store) a)
+
+  -- the phase and row, the lent store, the data and the lent symbol
+  unfoldable pub emitCall : ℕ → ℕ → List ℕ → List ℕ → List ℕ → List ℕ → StepSaid
+  emitCall j r store ds room a = pick (short a) (saysStep 21 store room a) (sendTold (emitBytes d s (record { phase = j; row = r }) store ds room) a)
+
+  -- the same without data
+  unfoldable pub flushCall : ℕ → ℕ → List ℕ → List ℕ → List ℕ → StepSaid
+  flushCall j r store room a = pick (short a) (saysStep 21 store room a) (sendTold (flushBytes d s (record { phase = j; row = r }) store room) a)
+
+  -- the phase, row and heard, the lent store, the arriving symbol and the lent data buffer
+  unfoldable pub receiveCall : ℕ → ℕ → ℕ → List ℕ → List ℕ → List ℕ → List ℕ → StepSaid
+  receiveCall j r h store y b a =
+      pick (short a) (saysStep 21 store b a) (receiveTold (receiveBytes d s (record { phase = j; row = r; heard = h }) store y b) a)

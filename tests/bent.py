@@ -1,0 +1,138 @@
+#!/usr/bin/env python3
+"""Makes what the host tests have to notice, so that it is known that they can fail.
+
+    python3 tests/bent.py FOLDER
+
+writes into the folder
+
+    straight.cases          few calls with right expectations, on which tests/host.c finds nothing
+    bent-NN.cases           the same calls with one wrong expectation in each file
+    wrong-NN.c              bench/plain.c with one mistake each, which the small cases have to tell
+"""
+
+import random
+import sys
+from pathlib import Path
+
+sys.dont_write_bytecode = True
+
+import plans
+from host import Cases, Link, some_bytes
+from stored import ROOT
+
+
+# --- wrong expectations ----------------------------------------------------
+
+def few(cases):
+    """Nine calls."""
+    plan, rng = plans.near_a(M=2), random.Random(6)
+    cases.name('few calls')
+    cases.call('judge', plan=b'')                                       # 0
+    cases.call('judge', plan=plan, answer=bytes(32))                    # 1
+    link = Link(cases, plan, 127, 7)                                    # 2, 3
+    link.send()                                                         # 4
+    link.hear()                                                         # 5
+    link.send()                                                         # 6
+    count = cases.model.count(link.at, 127)
+    link.receive(data=some_bytes(rng, count, 5), answer=bytes(20))      # 7
+    link.receive(data=b'\0', answer=bytes(19))                          # 8
+    return cases
+
+
+# (which of the calls, the buffer or None for the number returned, the byte, what is wrong)
+BENT = ((0, None, 0, 'a refusal by another number'), (1, None, 0, 'a refusal of a good plan'),
+        (0, 'answer', 3, 'another place'), (1, 'answer', 19, 'another N_I'),
+        (1, 'answer', 20, 'a byte past the answer'), (4, 'answer', 7, 'another phase'),
+        (4, 'answer', 11, 'another row'), (5, 'answer', 15, 'another number heard'),
+        (7, 'answer', 18, 'another count'), (8, 'answer', 0, 'a short answer written'),
+        (2, 'store', 851, 'another fresh cell'), (2, 'store', -1, 'a byte past the store'),
+        (3, 'store', 0, 'another fresh cell of a receiver'), (6, 'store', 850, 'another stored cell'),
+        (6, 'symbol', 0, 'another first cell on the line'),
+        (6, 'symbol', -1, 'another last cell on the line'),
+        (7, 'data', 1, 'another cell handed out'), (7, 'data', -1, 'a byte past the data'),
+        (4, 'plan', 3, 'a changed plan'), (6, 'data', 0, 'changed data'),
+        (7, 'symbol', 99, 'a changed symbol'))
+
+
+def bend_of(call, key, at):
+    def bend(calls, returned, after):
+        if calls != call:
+            return returned, after
+        if key is None:
+            return (returned + 1) % 21, after
+        data = bytearray(after[key])
+        data[at] ^= 1
+        return returned, {**after, key: bytes(data)}
+    return bend
+
+
+def write_cases(folder):
+    few(Cases(folder / 'straight.cases')).end()
+    for i, (call, key, at, _) in enumerate(BENT):
+        few(Cases(folder / ('bent-%02d.cases' % i), bend_of(call, key, at))).end()
+    cases = few(Cases(folder / ('bent-%02d.cases' % len(BENT))))
+    cases.reached['judge'].add(15)          # a number that no call returned
+    cases.end()
+    cases = few(Cases(folder / ('bent-%02d.cases' % (len(BENT) + 1))))
+    cases.calls += 1                        # a call that is missing
+    cases.end()
+    return len(BENT) + 2
+
+
+# --- wrong programs --------------------------------------------------------
+
+# (what stands once in bench/plain.c, what stands there instead)
+WRONG = (
+    # cells and the answer
+    ('return (unsigned)cells[2 * i] << 8 | cells[2 * i + 1]',
+     'return (unsigned)cells[2 * i + 1] << 8 | cells[2 * i]'),
+    ('at[3] = (uint8_t)number', 'at[3] = at[4] = (uint8_t)number'),
+    ('ANSWER = 20', 'ANSWER = 19'),
+    ('if (answer_len >= ANSWER)', 'if (answer_len >= 19)'),
+    ('put_number(answer + 12, s.heard)', 'put_number(answer + 12, r.number ? 0 : s.heard)'),
+    # bytes outside of a buffer: read, behind and before; the store past its rows, written
+    ('struct refusal r = read_chain(p, plan, length);',
+     'struct refusal r = read_chain(p, plan + *(volatile const uint8_t *)(plan + length) * 0, length);'),
+    ('struct refusal r = read_chain(p, plan, length);',
+     'struct refusal r = read_chain(p, plan + *(volatile const uint8_t *)(plan - 1) * 0, length);'),
+    ('i < (size_t)p.m * (size_t)p.n', 'i < store_len / 2'),
+    # grounds
+    ('|| c % 2 != 0', ''),
+    ('|| s.heard >= (uint32_t)p->m', ''),
+    ('if (!warming && data_len / 2 <', 'if (!warming && data_len / 2 + 1 <'),
+    ('if (!warming && data_len / 2 <', 'if (data_len / 2 <'),
+    ('for (int k = 0; k < SUBCARRIERS; k++) {\n        int want', 'for (int k = 1; k < SUBCARRIERS; k++) {\n        int want'),
+    ('if (get(data, i) > LAST_DATA)', 'if (get(data, i) > LAST_DATA + 1)'),
+    ('&& cell != FILLER_MARK', ''),
+    # a refused step that writes
+    ('r = check_data(&p, (int)phase, data, data_len);',
+     '{ r = check_data(&p, (int)phase, data, data_len); if (r.number == 19) write_row(&p, row, (int)phase, NULL, store); }'),
+    # the shortcuts that the paper names
+    ('p->carrier[cell], (phase + cell % p->m) % PHASES', 'p->carrier[cell], phase'),
+    ('s.row = (s.row + 1) %', 's.row = s.phase %'),
+    ('(k - (p->l + 8) - phase)', '(k - phase)'),
+    # the interleavers
+    ('<< (6 - bit)', '<< bit'),
+    ('place(p, s.row, cell % p->m, cell)', 'place(p, s.row, 0, cell)'),
+    ('heard < (uint32_t)p.m - 1', 'heard + 2 < (uint32_t)p.m'),
+    ('write_row(&p, (uint32_t)(p.m - back), ((int)phase - back', 'write_row(&p, (uint32_t)(p.m - back), ((int)phase + back'),
+)
+
+
+def write_programs(folder):
+    plain = (ROOT / 'bench' / 'plain.c').read_text()
+    for i, (old, new) in enumerate(WRONG):
+        assert plain.count(old) == 1, old
+        (folder / ('wrong-%02d.c' % i)).write_text(plain.replace(old, new))
+    return len(WRONG)
+
+
+def main():
+    if len(sys.argv) != 2:
+        sys.exit(__doc__)
+    folder = Path(sys.argv[1])
+    print('%d wrong expectations and %d wrong programs written' % (write_cases(folder), write_programs(folder)))
+
+
+if __name__ == '__main__':
+    main()

@@ -1,0 +1,397 @@
+/* Makes the calls of a case file and compares all that they give with what the second model expects: the number returned, the
+ * answer, every buffer. tests/host.py writes the file and says how it is laid out.
+ *
+ *     host [--stack] FILE
+ *
+ * Each call is made in four ways, on copies of its buffers at their exact length: between guard bytes, in heap blocks of their own
+ * (for the address sanitizer and valgrind), and with a page that cannot be touched right behind or right before each buffer.
+ * With --stack the calls run on a stack of their own, and what they use of it is measured. Prints one line, or the first difference and
+ * ends with 1. */
+#define _DEFAULT_SOURCE
+#include "headend.h"
+
+#include <signal.h>
+#include <stdarg.h>
+#include <stdio.h>
+#include <stdlib.h>
+#include <string.h>
+#include <sys/mman.h>
+#include <ucontext.h>
+
+/* What tests/host.py takes for granted of the header. */
+_Static_assert(HEADEND_ANSWER_BYTES == 20 && HEADEND_PLACE == 0 && HEADEND_PHASE == 4 && HEADEND_ROW == 8, "the answer");
+_Static_assert(HEADEND_HEARD == 12 && HEADEND_VALUE == 16, "the answer");
+_Static_assert(HEADEND_EXCLUDED == 1 && HEADEND_PLC == 2 && HEADEND_CONTINUOUS == 3, "the roles");
+_Static_assert(HEADEND_SCATTERED == 4 && HEADEND_DATA == 5, "the roles");
+_Static_assert(HEADEND_SYMBOL_BYTES == 2 * 4096 && HEADEND_STORE_BYTES_MAX == 2 * 32 * 3745, "the sizes");
+_Static_assert(HEADEND_DATA_BYTES_MAX == 2 * 3745, "the sizes");
+
+enum { SLOTS = 7, BUFFERS = 5, NUMBERS = 3, GUARD = 64, GUARD_BYTE = 0x5A, PAGE = 65536, ROOM = 1 << 21, GROUNDS = 21, STACK = 1 << 20 };
+enum { JUDGE, ROLE, DATA_COUNT, FRESH_EMITTER, FRESH_RECEIVER, EMIT, FLUSH, RECEIVE, CALLS };
+enum { GUARDED, OWN_BLOCK, PAGE_BEHIND, PAGE_BEFORE, WAYS };
+
+static const struct {
+    const char *name;
+    int numbers, buffers;
+    const char *buffer[BUFFERS];
+} CALL[CALLS] = {
+    {"judge", 0, 2, {"plan", "answer"}},
+    {"role", 2, 2, {"plan", "answer"}},
+    {"data_count", 1, 2, {"plan", "answer"}},
+    {"fresh_emitter", 1, 3, {"plan", "store", "answer"}},
+    {"fresh_receiver", 1, 3, {"plan", "store", "answer"}},
+    {"emit", 2, 5, {"plan", "store", "data", "symbol", "answer"}},
+    {"flush", 2, 4, {"plan", "store", "symbol", "answer"}},
+    {"receive", 3, 5, {"plan", "store", "symbol", "data", "answer"}},
+};
+
+static const char *const WAY[WAYS] = {"between guard bytes", "in its own block", "with a page behind", "with a page before"};
+
+/* A buffer before a call and as it has to be after it. */
+struct slot {
+    uint8_t *held, *wanted;
+    size_t length;
+};
+
+struct call {
+    unsigned which;
+    uint32_t numbers[NUMBERS], wanted;
+    struct slot *slots[BUFFERS];
+};
+
+/* A buffer as it is lent: its place in the block that it was cut from. */
+struct lent {
+    uint8_t *block, *at;
+    size_t before, behind; /* guard bytes */
+};
+
+static struct slot slot[SLOTS];
+static struct {
+    uint8_t *at, *end;
+} file;
+static struct {
+    uint32_t calls, returned; /* bit n of `returned`: some call returned n */
+    unsigned long long bytes;
+    char name[200];
+    uint8_t *arena[BUFFERS];
+} run;
+static struct {
+    uint8_t *bottom; /* of the stack that calls run on, or NULL */
+    ucontext_t host, call;
+    const struct call *c;
+    const struct lent *lent;
+    uint32_t returned;
+} own;
+
+static void fail(const char *form, ...)
+{
+    va_list rest;
+    va_start(rest, form);
+    printf("host: DIFFERS at call %lu (%s): ", (unsigned long)run.calls, run.name);
+    vprintf(form, rest);
+    printf("\n");
+    va_end(rest);
+    exit(1);
+}
+
+static void touched(int signal)
+{
+    (void)signal;
+    fail("a page beside a buffer was touched");
+}
+
+/* --- the case file --- */
+
+static void load(const char *path)
+{
+    FILE *f = fopen(path, "rb");
+    long length;
+    if (f == NULL || fseek(f, 0, SEEK_END) != 0 || (length = ftell(f)) < 0)
+        fail("cannot read %s", path);
+    rewind(f);
+    file.at = malloc((size_t)length + 1);
+    if (file.at == NULL || fread(file.at, 1, (size_t)length, f) != (size_t)length)
+        fail("cannot read %s", path);
+    file.end = file.at + length;
+    fclose(f);
+}
+
+static const uint8_t *take(size_t count)
+{
+    if ((size_t)(file.end - file.at) < count)
+        fail("the case file ends early");
+    file.at += count;
+    return file.at - count;
+}
+
+static uint32_t number(void)
+{
+    const uint8_t *b = take(4);
+    return (uint32_t)b[0] << 24 | (uint32_t)b[1] << 16 | (uint32_t)b[2] << 8 | b[3];
+}
+
+static struct slot *a_slot(void)
+{
+    unsigned i = *take(1);
+    if (i >= SLOTS)
+        fail("no slot %u", i);
+    return &slot[i];
+}
+
+static void read_name(void)
+{
+    uint32_t length = number();
+    snprintf(run.name, sizeof run.name, "%.*s", (int)length, (const char *)take(length));
+}
+
+static void read_length(void)
+{
+    struct slot *s = a_slot();
+    size_t length = number();
+    if (length > ROOM)
+        fail("a buffer of %zu bytes", length);
+    if (length > s->length)
+        memset(s->held + s->length, 0, length - s->length);
+    s->length = length;
+}
+
+/* Writes the bytes that follow into a slot: as they are before the call, or wanted after it. */
+static void read_bytes(int after)
+{
+    struct slot *s = a_slot();
+    size_t at = number(), length = number();
+    if (at > s->length || length > s->length - at)
+        fail("bytes outside of a slot");
+    memcpy((after ? s->wanted : s->held) + at, take(length), length);
+}
+
+static void read_call(struct call *c)
+{
+    c->which = *take(1);
+    if (c->which >= CALLS)
+        fail("no call %u", c->which);
+    for (int i = 0; i < CALL[c->which].numbers; i++)
+        c->numbers[i] = number();
+    for (int i = 0; i < CALL[c->which].buffers; i++) {
+        c->slots[i] = a_slot();
+        memcpy(c->slots[i]->wanted, c->slots[i]->held, c->slots[i]->length);
+    }
+    c->wanted = number();
+    for (uint32_t changes = number(); changes > 0; changes--)
+        read_bytes(1);
+}
+
+/* --- the ways to lend a buffer --- */
+
+static uint8_t *make_arena(void)
+{
+    uint8_t *pages = mmap(NULL, ROOM + 2 * PAGE, PROT_NONE, MAP_PRIVATE | MAP_ANONYMOUS, -1, 0);
+    if (pages == MAP_FAILED || mprotect(pages + PAGE, ROOM, PROT_READ | PROT_WRITE) != 0)
+        fail("no memory");
+    return pages + PAGE;
+}
+
+static struct lent lend(int way, int i, const struct slot *s)
+{
+    struct lent l = {NULL, NULL, 0, 0};
+    size_t room = s->length < ROOM - GUARD ? GUARD : 0;
+    if (way == GUARDED || way == OWN_BLOCK) {
+        l.before = l.behind = way == GUARDED ? GUARD : 0;
+        l.block = malloc(l.before + s->length + l.behind);
+        if (l.block == NULL)
+            fail("no memory");
+        l.at = l.block + l.before;
+    } else if (way == PAGE_BEHIND) {
+        l.at = run.arena[i] + ROOM - s->length;
+        l.before = room;
+    } else {
+        l.at = run.arena[i];
+        l.behind = room;
+    }
+    memcpy(l.at, s->held, s->length);
+    memset(l.at - l.before, GUARD_BYTE, l.before);
+    memset(l.at + s->length, GUARD_BYTE, l.behind);
+    return l;
+}
+
+static size_t first_difference(const uint8_t *a, const uint8_t *b, size_t length)
+{
+    size_t i = 0;
+    while (i < length && a[i] == b[i])
+        i++;
+    return i;
+}
+
+static void compare(const struct call *c, int way, int i, const struct lent *l)
+{
+    const struct slot *s = c->slots[i];
+    const char *name = CALL[c->which].name, *buffer = CALL[c->which].buffer[i];
+    if (memcmp(l->at, s->wanted, s->length) != 0) {
+        size_t at = first_difference(l->at, s->wanted, s->length);
+        fail("headend_%s, %s %s: byte %zu of %zu is %02x, wanted %02x", name, buffer, WAY[way], at, s->length, l->at[at], s->wanted[at]);
+    }
+    for (size_t g = 0; g < l->before; g++)
+        if (l->at[-1 - (long)g] != GUARD_BYTE)
+            fail("headend_%s wrote before its %s", name, buffer);
+    for (size_t g = 0; g < l->behind; g++)
+        if (l->at[s->length + g] != GUARD_BYTE)
+            fail("headend_%s wrote behind its %s", name, buffer);
+    run.bytes += s->length + l->before + l->behind;
+}
+
+/* --- the calls --- */
+
+static uint32_t make_call(const struct call *c, const struct lent *b)
+{
+    const uint32_t *n = c->numbers;
+    size_t len[BUFFERS] = {0};
+    for (int i = 0; i < CALL[c->which].buffers; i++)
+        len[i] = c->slots[i]->length;
+    switch (c->which) {
+    case JUDGE:
+        return headend_judge(b[0].at, len[0], b[1].at, len[1]);
+    case ROLE:
+        return headend_role(b[0].at, len[0], n[0], n[1], b[1].at, len[1]);
+    case DATA_COUNT:
+        return headend_data_count(b[0].at, len[0], n[0], b[1].at, len[1]);
+    case FRESH_EMITTER:
+        return headend_fresh_emitter(b[0].at, len[0], n[0], b[1].at, len[1], b[2].at, len[2]);
+    case FRESH_RECEIVER:
+        return headend_fresh_receiver(b[0].at, len[0], n[0], b[1].at, len[1], b[2].at, len[2]);
+    case EMIT:
+        return headend_emit(b[0].at, len[0], n[0], n[1], b[1].at, len[1], b[2].at, len[2], b[3].at, len[3], b[4].at, len[4]);
+    case FLUSH:
+        return headend_flush(b[0].at, len[0], n[0], n[1], b[1].at, len[1], b[2].at, len[2], b[3].at, len[3]);
+    default:
+        return headend_receive(b[0].at, len[0], n[0], n[1], n[2], b[1].at, len[1], b[2].at, len[2], b[3].at, len[3], b[4].at, len[4]);
+    }
+}
+
+static void call_there(void)
+{
+    own.returned = make_call(own.c, own.lent);
+}
+
+/* Makes the call on the stack of its own. */
+static uint32_t call_on_stack(const struct call *c, const struct lent *lent)
+{
+    own.c = c;
+    own.lent = lent;
+    getcontext(&own.call);
+    own.call.uc_stack.ss_sp = own.bottom;
+    own.call.uc_stack.ss_size = STACK;
+    own.call.uc_link = &own.host;
+    makecontext(&own.call, call_there, 0);
+    swapcontext(&own.host, &own.call);
+    return own.returned;
+}
+
+static void make_stack(void)
+{
+    own.bottom = malloc(STACK);
+    if (own.bottom == NULL)
+        fail("no memory");
+    memset(own.bottom, GUARD_BYTE, STACK);
+}
+
+/* How many bytes of the stack the deepest call has used. */
+static size_t stack_used(void)
+{
+    size_t untouched = 0;
+    while (untouched < STACK && own.bottom[untouched] == GUARD_BYTE)
+        untouched++;
+    return STACK - untouched;
+}
+
+static void try_call(const struct call *c, int way)
+{
+    struct lent lent[BUFFERS];
+    int buffers = CALL[c->which].buffers;
+    for (int i = 0; i < buffers; i++)
+        lent[i] = lend(way, i, c->slots[i]);
+    uint32_t returned = own.bottom != NULL ? call_on_stack(c, lent) : make_call(c, lent);
+    if (returned != c->wanted)
+        fail("headend_%s returned %lu, wanted %lu", CALL[c->which].name, (unsigned long)returned, (unsigned long)c->wanted);
+    for (int i = 0; i < buffers; i++) {
+        compare(c, way, i, &lent[i]);
+        free(lent[i].block);
+    }
+    if (returned <= GROUNDS)
+        run.returned |= UINT32_C(1) << returned;
+}
+
+static void do_call(void)
+{
+    struct call c;
+    memset(&c, 0, sizeof c);
+    read_call(&c);
+    for (int way = 0; way < WAYS; way++)
+        try_call(&c, way);
+    for (int i = 0; i < CALL[c.which].buffers; i++) {
+        uint8_t *old = c.slots[i]->held;
+        c.slots[i]->held = c.slots[i]->wanted;
+        c.slots[i]->wanted = old;
+    }
+    run.calls++;
+}
+
+static void end(void)
+{
+    uint32_t calls = number(), returned = number();
+    const uint32_t all = (UINT32_C(1) << (GROUNDS + 1)) - 1;
+    if (calls != run.calls)
+        fail("%lu calls were to be made", (unsigned long)calls);
+    if (returned != run.returned)
+        fail("numbers %06lx were returned, wanted %06lx", (unsigned long)run.returned, (unsigned long)returned);
+    printf("host: %lu calls, %s, each in %d ways, %llu bytes compared", (unsigned long)run.calls,
+           returned == all ? "grounds 1..21 each reached" : "not all grounds reached", WAYS, run.bytes);
+    if (own.bottom != NULL) {
+        printf(", %zu bytes of stack used", stack_used());
+        if (stack_used() > HEADEND_STACK_BYTES)
+            fail("more than %u", (unsigned)HEADEND_STACK_BYTES);
+    }
+    printf("\n");
+}
+
+static void make_room(void)
+{
+    for (int i = 0; i < SLOTS; i++) {
+        slot[i].held = malloc(ROOM);
+        slot[i].wanted = malloc(ROOM);
+        if (slot[i].held == NULL || slot[i].wanted == NULL)
+            fail("no memory");
+    }
+    for (int i = 0; i < BUFFERS; i++)
+        run.arena[i] = make_arena();
+}
+
+int main(int argc, char **argv)
+{
+    int stack = argc > 1 && strcmp(argv[1], "--stack") == 0;
+    if (argc != 2 + stack)
+        fail("usage: host [--stack] FILE");
+    load(argv[1 + stack]);
+    uint8_t *start = file.at;
+    make_room();
+    if (stack)
+        make_stack();
+    signal(SIGSEGV, touched);
+    signal(SIGBUS, touched);
+    for (unsigned item = *take(1); item != 0; item = *take(1)) {
+        switch (item) {
+        case 1: read_name(); break;
+        case 2: read_length(); break;
+        case 3: read_bytes(0); break;
+        case 4: do_call(); break;
+        default: fail("no item %u", item);
+        }
+    }
+    end();
+    for (int i = 0; i < SLOTS; i++) {
+        free(slot[i].held);
+        free(slot[i].wanted);
+    }
+    free(start);
+    free(own.bottom);
+    return 0;
+}

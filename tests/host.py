@@ -1,0 +1,528 @@
+#!/usr/bin/env python3
+"""Makes the cases of the host tests: calls of include/headend.h, and what each has to give.
+
+    python3 tests/host.py FILE             writes all cases
+    python3 tests/host.py --small FILE     writes fewer, for a run under valgrind
+
+Every number and byte that is expected comes from the second model (model.py, emitter.py,
+receiver.py), read as change request 01 says: two bytes a cell, high byte first, ground 21 before
+all others, five numbers of four bytes in the answer.
+
+A case file is a list of items; a number is four bytes, high byte first.  Slots 0 to 6 hold the
+buffers: 0 the plan, 1 an emitter's store, 2 a receiver's, 3 data to be sent, 4 the symbol, 5 data
+received, 6 the answer.
+
+    1, number, bytes                    the name of the cases that follow, so many bytes
+    2, slot, number                     the slot has so many bytes: the last are left out, or zeros added
+    3, slot, number, number, bytes      from an offset on so many bytes of the slot are these
+    4, call, numbers, slots, number, number of changes, then as after a 3 for each
+                                        a call: its place in CALLS, its numbers and its buffers in the
+                                        order of headend.h, what it returns, what changes in the slots
+    0, number, number                   the end: how many calls there were, and which numbers were
+                                        returned, bit n for n
+"""
+
+import random
+import sys
+from array import array
+from collections import defaultdict
+
+sys.dont_write_bytecode = True
+
+import compare
+import plans
+from receiver import Receiver
+from stored import ROOT
+
+ANSWER = 20
+SYMBOL = 4096
+TOP = 2 ** 32 - 1
+ODD_NUMBERS = (0x12345678, 0x9ABCDEF0, 0x0F2E4D6C)      # no byte as another
+BLOCK = 256
+PLAN, SENDING, LISTENING, GIVEN, LINE, HANDED, SAID = range(7)
+ROLES = ('excluded', 'plc', 'continuous', 'scattered', 'data')
+
+# Of each call: how many numbers it takes, its buffers, how many of its numbers are a state, its grounds.
+CALLS = {
+    'judge': (0, 'plan answer', 0, {*range(1, 16), 21}),
+    'role': (2, 'plan answer', 0, {*range(1, 17), 21}),
+    'data_count': (1, 'plan answer', 0, {*range(1, 17), 21}),
+    'fresh_emitter': (1, 'plan store answer', 0, {*range(1, 18), 21}),
+    'fresh_receiver': (1, 'plan store answer', 0, {*range(1, 18), 21}),
+    'emit': (2, 'plan store data symbol answer', 2, {*range(1, 20), 21}),
+    'flush': (2, 'plan store symbol answer', 2, {*range(1, 18), 21}),
+    'receive': (3, 'plan store symbol data answer', 3, {*range(1, 18), 20, 21}),
+}
+
+
+def number(n):
+    return n.to_bytes(4, 'big')
+
+
+def to_cells(data):
+    cells = array('H', data)
+    cells.byteswap()
+    return cells.tolist()
+
+
+def to_bytes(cells):
+    data = array('H', cells)
+    data.byteswap()
+    return data.tobytes()
+
+
+# --- the interface, by the second model ------------------------------------
+
+class Interface(Receiver):
+    """The calls, over bytes."""
+
+    def __init__(self):
+        super().__init__()
+        self.judged = {}
+
+    def judge(self, plan):
+        if plan not in self.judged:
+            self.judged[plan] = super().judge(plan)
+        return self.judged[plan]
+
+    def call(self, name, numbers, given):
+        """What the call returns, and the buffers as they are after it."""
+        state = numbers if CALLS[name][2] else ()
+        if len(given['answer']) < ANSWER:
+            return 21, given
+        lent = {key: given[key] for key in given if key not in ('plan', 'answer')}
+        if any(len(data) % 2 for data in lent.values()):
+            return 21, self.said(given, 0, state)
+        cells = {key: to_cells(data) for key, data in lent.items()}
+        answer = getattr(self, 'call_' + name)(given['plan'], *numbers, **cells)
+        if answer[0] == 'refused':
+            return answer[1], self.said(given, answer[2], state)
+        left = {key: to_bytes(data) for key, data in cells.items()}
+        return 0, self.said({**given, **left}, 0, *answer)
+
+    def said(self, given, place, state=(), value=0):
+        """The buffers with the answer written."""
+        five = [place, *(*state, 0, 0, 0)[:3], value]
+        return {**given, 'answer': b''.join(map(number, five)) + given['answer'][ANSWER:]}
+
+    # Each is given cells and answers the model's refusal, or the next state and a value.
+
+    def call_judge(self, plan):
+        answer = self.verdict(plan)
+        return answer if answer[0] == 'refused' else ((), answer[1])
+
+    def call_role(self, plan, subcarrier, phase):
+        answer = self.role(plan, subcarrier, phase)
+        return answer if isinstance(answer, tuple) else ((), 1 + ROLES.index(answer))
+
+    def call_data_count(self, plan, phase):
+        answer = self.data_count(plan, phase)
+        return answer if isinstance(answer, tuple) else ((), answer)
+
+    def call_fresh_emitter(self, plan, phase, store):
+        answer = self.fresh(plan, phase, store)
+        return answer if answer[0] == 'refused' else (answer[1:], 0)
+
+    def call_fresh_receiver(self, plan, phase, store):
+        answer = self.listen(plan, phase, store)
+        return answer if answer[0] == 'refused' else (answer[1:], 0)
+
+    def call_emit(self, plan, phase, row, store, data, symbol):
+        answer = self.step(plan, phase, row, store, data, symbol)
+        return answer if answer[0] == 'refused' else (answer[1:], 0)
+
+    def call_flush(self, plan, phase, row, store, symbol):
+        return self.call_emit(plan, phase, row, store, None, symbol)
+
+    def call_receive(self, plan, phase, row, heard, store, symbol, data):
+        answer = self.receive(plan, phase, row, heard, store, symbol, data)
+        if answer[0] == 'refused':
+            return answer
+        return answer[-3:], answer[1] if answer[0] == 'data' else 0
+
+
+# --- the case file ---------------------------------------------------------
+
+def changes(old, new):
+    """(offset, bytes) where two buffers of one length differ, by blocks."""
+    if old == new:
+        return
+    for at in range(0, len(new), BLOCK):
+        if old[at:at + BLOCK] != new[at:at + BLOCK]:
+            yield at, new[at:at + BLOCK]
+
+
+class Cases:
+    """Writes calls, each with what the model expects of it."""
+
+    def __init__(self, path, bend=None):
+        self.file = open(path, 'wb')
+        self.model = Interface()
+        self.bend = bend                    # changes an expectation: (call's number, returned, buffers)
+        self.held = {}                      # of each slot, what tests/host.c has there
+        self.calls = 0
+        self.reached = defaultdict(set)     # of each call, what it returned
+
+    def name(self, text):
+        self.file.write(b'\1' + number(len(text)) + text.encode())
+
+    def hold(self, slot, data):
+        """The slot has these bytes before the next call."""
+        old = self.held.get(slot, b'')
+        if len(old) != len(data):
+            self.file.write(bytes([2, slot]) + number(len(data)))
+            old = old[:len(data)].ljust(len(data), b'\0')
+        for at, part in changes(old, data):
+            self.file.write(bytes([3, slot]) + number(at) + number(len(part)) + part)
+        self.held[slot] = data
+
+    def call(self, name, *numbers, **given):
+        """A call on these buffers.  Answers what it returns and the buffers after it."""
+        slots = self.slots(name)
+        given.setdefault('answer', bytes([0xA5]) * (ANSWER + self.calls % 3 * 11))
+        for key, slot in slots.items():
+            self.hold(slot, given[key])
+        returned, after = self.model.call(name, numbers, given)
+        self.reached[name].add(returned)
+        wanted = self.bend(self.calls, returned, after) if self.bend else (returned, after)
+        parts = [bytes([slot]) + number(at) + number(len(part)) + part for key, slot in slots.items()
+                 for at, part in changes(given[key], wanted[1][key])]
+        self.file.write(bytes([4, list(CALLS).index(name)]) + b''.join(map(number, numbers))
+                        + bytes(slots.values()) + number(wanted[0]) + number(len(parts))
+                        + b''.join(parts))
+        for key, slot in slots.items():
+            self.held[slot] = wanted[1][key]
+        self.calls += 1
+        return returned, after
+
+    def slots(self, name):
+        """The slot of each buffer of a call."""
+        hears = name in ('receive', 'fresh_receiver')
+        of = {'plan': PLAN, 'store': LISTENING if hears else SENDING,
+              'data': HANDED if hears else GIVEN, 'symbol': LINE, 'answer': SAID}
+        return {key: of[key] for key in CALLS[name][1].split()}
+
+    def end(self):
+        reached = sum(1 << n for n in set().union(*self.reached.values()))
+        self.file.write(b'\0' + number(self.calls) + number(reached))
+        self.file.close()
+
+
+# --- what is given ---------------------------------------------------------
+
+def some_bytes(rng, cells, spare=0):
+    """The bytes of so many cells, of any content, and of some more."""
+    return rng.randbytes(2 * (cells + spare))
+
+
+def some_data(rng, count):
+    return to_bytes([x % 16384 for x in array('H', rng.randbytes(2 * count))])
+
+
+def with_cell(data, i, cell):
+    return data[:2 * i] + cell.to_bytes(2, 'big') + data[2 * i + 2:]
+
+
+def at_depth(plan, m):
+    return plans.second(plan, 0, m)
+
+
+class Link:
+    """An emitter and a receiver of one plan, and the line between."""
+
+    def __init__(self, cases, plan, start, seed, spare=3):
+        self.cases, self.plan = cases, plan
+        self.rng = random.Random(seed)
+        self.at = cases.model.layout(plan)
+        self.need = self.at.m * self.at.n
+        self.symbol = some_bytes(self.rng, SYMBOL)
+        store = some_bytes(self.rng, self.need, spare)
+        _, after = self.cases.call('fresh_emitter', start, plan=plan, store=store)
+        self.sending, self.sender = after['store'], self.next_state(after['answer'], 2)
+        self.listen(2 * spare)
+
+    def listen(self, spare):
+        """A receiver that hears the symbols sent from here on."""
+        store = some_bytes(self.rng, self.need, spare)
+        _, after = self.cases.call('fresh_receiver', self.sender[0], plan=self.plan, store=store)
+        self.listening, self.state = after['store'], self.next_state(after['answer'], 3)
+        self.sent, self.t = [], 0       # inputs, and symbols heard, since
+
+    def next_state(self, answer, numbers):
+        return tuple(int.from_bytes(answer[4 * i:4 * i + 4], 'big') for i in range(1, numbers + 1))
+
+    # Each step is the right one but for what is said in `other`.
+
+    def emit(self, name='emit', **other):
+        count = self.cases.model.count(self.at, self.sender[0])
+        given = {'plan': self.plan, 'store': self.sending, 'symbol': self.symbol, **other}
+        numbers = given.pop('state', self.sender)
+        data = some_data(self.rng, count)
+        if name == 'emit':
+            given.setdefault('data', data)
+        return self.cases.call(name, *numbers, **given)
+
+    def receive(self, **other):
+        count = self.cases.model.count(self.at, self.cases.model.input_phase(self.at, self.state[0]))
+        warming = self.state[2] < self.at.m - 1     # then a data buffer of any length will do
+        room = self.rng.choice((0, 1, count - 1, count)) if warming else count + self.rng.choice((0, 0, 1, 50))
+        given = {'plan': self.plan, 'store': self.listening, 'symbol': self.symbol, **other}
+        given.setdefault('data', some_bytes(self.rng, room))
+        numbers = given.pop('state', self.state)
+        return self.cases.call('receive', *numbers, **given)
+
+    def send(self, flush=False):
+        returned, after = self.emit('flush' if flush else 'emit')
+        assert returned == 0
+        self.sending, self.symbol = after['store'], after['symbol']
+        count = self.cases.model.count(self.at, self.sender[0])
+        self.sent.append(b'\x80\x01' * count if flush else after['data'])
+        self.sender = self.next_state(after['answer'], 2)
+
+    def hear(self):
+        """What is received is what was sent M - 1 symbols before."""
+        returned, after = self.receive()
+        assert returned == 0
+        count = int.from_bytes(after['answer'][16:20], 'big')
+        want = self.sent[self.t - self.at.m + 1] if self.t >= self.at.m - 1 else b''
+        assert after['data'][:2 * count] == want
+        self.listening = after['store']
+        self.state = self.next_state(after['answer'], 3)
+        self.t += 1
+
+    def wrong_sends(self):
+        """(what is other, the number that refuses it) of an emit."""
+        phase, row = self.sender
+        count, m = self.cases.model.count(self.at, phase), self.at.m
+        good = some_data(self.rng, count)
+        short = self.sending[:2 * self.need - 2]
+        yield from (({'data': good[2:]}, 18), ({'data': good + b'\0\0'}, 18), ({'data': b''}, 18),
+                    ({'data': with_cell(good, count // 2, 16384)}, 19),
+                    ({'data': with_cell(good, 0, 0x8001)}, 19),
+                    ({'data': with_cell(good, count - 1, 65535)}, 19),
+                    ({'state': (phase, m)}, 16), ({'state': (128, row)}, 16),
+                    ({'state': (TOP, TOP), 'data': b''}, 16), ({'state': ODD_NUMBERS[:2]}, 16),
+                    ({'store': short}, 17), ({'store': b''}, 17),
+                    ({'symbol': self.symbol[2:]}, 17), ({'symbol': self.symbol + b'\0\0'}, 17),
+                    ({'store': short, 'data': good[2:]}, 17),
+                    ({'data': with_cell(good[2:], 0, 16384)}, 18),
+                    ({'store': self.sending[:-1]}, 21), ({'data': good[1:]}, 21),
+                    ({'symbol': self.symbol[:-1]}, 21), ({'symbol': b'\0'}, 21),
+                    ({'data': good + b'\0', 'state': (128, m)}, 21))
+        for room in (0, 1, 19):
+            yield {'answer': b'\x5A' * room, 'state': (128, TOP)}, 21
+            yield {'answer': b'\x5A' * room}, 21
+
+    def wrong_receives(self):
+        """The same of a receive step."""
+        phase, row, heard = self.state
+        m, symbol = self.at.m, self.symbol
+        yield from (({'state': (phase, m, heard)}, 16), ({'state': (phase, row, m)}, 16),
+                    ({'state': (128, row, heard)}, 16), ({'state': (TOP, TOP, TOP)}, 16),
+                    ({'state': ODD_NUMBERS}, 16),
+                    ({'store': self.listening[:2 * self.need - 2]}, 17), ({'store': b''}, 17),
+                    ({'symbol': symbol[2:]}, 17), ({'symbol': symbol + b'\x80\x02'}, 17),
+                    ({'store': self.listening[:-1]}, 21), ({'symbol': symbol[:-1]}, 21),
+                    ({'data': b'\0'}, 21), ({'data': bytes(9999)}, 21),
+                    ({'symbol': b'\0', 'state': (phase, m, heard)}, 21),
+                    ({'symbol': with_cell(symbol, 4095, 0x8003)}, 20),
+                    ({'symbol': with_cell(with_cell(symbol, 4095, 0), 0, 0x8001)}, 20))
+        if heard == m - 1:
+            count = self.cases.model.count(self.at, self.cases.model.input_phase(self.at, phase))
+            yield {'data': bytes(2 * count - 2)}, 17
+            yield {'data': b'', 'symbol': with_cell(symbol, 0, 0)}, 17
+        marks = self.cases.model.marks_at(self.at, phase)
+        for mark in set(marks):
+            cell = self.rng.choice((16384, 65535, 0x8005, 0x8000 if mark != 0x8000 else 0x8001))
+            turn = self.rng.randrange(SYMBOL)
+            k = (turn + (marks[turn:] + marks[:turn]).index(mark)) % SYMBOL
+            yield {'symbol': with_cell(symbol, k, cell)}, 20
+        for room in (0, 1, 19):
+            yield {'answer': b'\x5A' * room, 'state': (TOP, row, TOP)}, 21
+            yield {'answer': b'\x5A' * room}, 21
+
+    def refused(self, step, wrongs, some):
+        """Takes refused steps, all of them or so many."""
+        wrongs = list(wrongs)
+        for other, want in wrongs if some is None else self.rng.sample(wrongs, some):
+            returned, _ = step(**other)
+            assert returned == want, (returned, want)
+
+    def refused_flush(self, some):
+        wrongs = [(other, want) for other, want in self.wrong_sends() if 'data' not in other]
+        self.refused(lambda **other: self.emit('flush', **other), wrongs, some)
+
+    def run(self, symbols, some=2):
+        """Sends and receives so many symbols, with refused steps between."""
+        for t in range(symbols):
+            self.refused(self.emit, self.wrong_sends(), some)
+            if t % 3 == 2:
+                self.refused_flush(some)
+            self.send(t % 3 == 2)
+            self.refused(self.receive, self.wrong_receives(), some)
+            self.hear()
+
+
+# --- the cases -------------------------------------------------------------
+
+def verdicts(cases, some):
+    """The example plans, then the plans that compare.py makes, those of cases.py among them."""
+    for path in sorted((ROOT / 'plans').glob('*.plan')):
+        cases.name('verdict of ' + path.name)
+        cases.call('judge', plan=path.read_bytes())
+    for source, plan in compare.inputs(some, 1) if some else ():
+        cases.name('verdict of %s' % source)
+        cases.call('judge', plan=plan)
+
+
+def roles(cases, subcarriers):
+    a, largest, singles = plans.PLAN_A, plans.LARGEST, plans.SINGLES_150
+    for plan, phase in ((a, 0), (a, 14), (a, 125), (a, 127), (largest, 77), (singles, 127)):
+        cases.name('roles at phase %d' % phase)
+        for k in subcarriers:
+            cases.call('role', k, phase, plan=plan)
+        for k, j in ((4096, 0), (TOP, 0), (0, 128), (4095, TOP), (4096, 128)):
+            assert cases.call('role', k, j, plan=plan)[0] == 16
+
+
+def counts(cases, phases):
+    for plan in (plans.PLAN_A, plans.near_a(M=3), plans.near_b(), at_depth(plans.LARGEST, 31),
+                 plans.SINGLES_150):
+        cases.name('N_D')
+        for phase in phases:
+            cases.call('data_count', phase, plan=plan)
+        for phase in (128, TOP):
+            assert cases.call('data_count', phase, plan=plan)[0] == 16
+
+
+def refused_plans(cases):
+    """Every call refused by each of 1 to 15, and by 21 before."""
+    rng = random.Random(3)
+    for ground in range(1, 16):
+        plan = (ROOT / 'plans' / ('refused-%02d.plan' % ground)).read_bytes()
+        for name, (takes, buffers, *_) in CALLS.items():
+            cases.name('%s refused by %d' % (name, ground))
+            # Good buffers of Plan A, then short ones and numbers out of range.
+            for cells, n in (({'store': 1700, 'data': 421, 'symbol': SYMBOL}, 3), ({}, TOP)):
+                given = {key: some_bytes(rng, cells.get(key, 2)) for key in buffers.split()[1:-1]}
+                assert cases.call(name, *[n] * takes, plan=plan, **given)[0] == ground
+            for odd in given:
+                bad = {**given, odd: given[odd] + b'\0'}
+                assert cases.call(name, *[5] * takes, plan=plan, **bad)[0] == 21
+            for room in (0, 1, 19):
+                given['answer'] = b'\x5A' * room
+                assert cases.call(name, *[5] * takes, plan=plan, **given)[0] == 21
+
+
+def lent_rooms(cases):
+    """Longer stores and answers than needed, and fresh starts at the limits of 16, 17 and 21."""
+    rng = random.Random(4)
+    for plan in (plans.PLAN_A, plans.near_a(M=1), plans.near_a([(850, 853)], [900], M=31)):
+        cases.name('fresh starts')
+        at = cases.model.layout(plan)
+        for name in ('fresh_emitter', 'fresh_receiver'):
+            for phase in (0, 1, at.m - 1, 64, 126, 127):
+                for spare in (0, 1, 500):
+                    store = some_bytes(rng, at.m * at.n, spare)
+                    room = rng.choice((20, 21, 64, 1000))
+                    assert cases.call(name, phase, plan=plan, store=store, answer=rng.randbytes(room))[0] == 0
+            store = some_bytes(rng, at.m * at.n)
+            for phase, lent, want in ((128, store, 16), (TOP, b'', 16), (5, store[2:], 17), (5, b'', 17),
+                                      (5, store[:-1], 21), (5, store + b'\0', 21), (TOP, b'\0', 21)):
+                assert cases.call(name, phase, plan=plan, store=lent)[0] == want
+            for room in (0, 1, 19):
+                assert cases.call(name, 5, plan=plan, store=store, answer=bytes(room))[0] == 21
+
+
+def any_states(cases, depths):
+    """Single steps from any state, in stores of any content."""
+    rng = random.Random(5)
+    for m in depths:
+        for plan in (plans.near_a([(850, 853)], [900], M=m), at_depth(plans.SINGLES_150, m)):
+            cases.name('any state at depth %d' % m)
+            at = cases.model.layout(plan)
+            for phase in (0, 127, rng.randrange(128)):
+                row, heard = rng.randrange(m), rng.choice((0, m - 1))
+                line = to_bytes([rng.choice((0x8001, rng.randrange(16384))) if mark is None else mark
+                                 for mark in cases.model.marks_at(at, phase)])
+                store, room = some_bytes(rng, m * at.n, 7), some_bytes(rng, SYMBOL)
+                data = some_data(rng, cases.model.count(at, phase))
+                assert cases.call('emit', phase, row, plan=plan, store=store, data=data, symbol=room)[0] == 0
+                assert cases.call('flush', phase, row, plan=plan, store=store, symbol=room)[0] == 0
+                assert cases.call('receive', phase, row, heard, plan=plan, store=store, symbol=line,
+                                  data=some_bytes(rng, at.n))[0] == 0
+
+
+def runs(cases, depths, large, all_wrong, long):
+    """Links at these depths: of Plan A's neighbours, also round the wrap of the phases; of large plans;
+    with every refused step, and with a receiver that comes late; and a long one at depth 3."""
+    for m in depths:
+        for start in (127 - m // 2, 37 * m % 128):
+            cases.name('a link of depth %d from phase %d' % (m, start))
+            Link(cases, plans.near_a(M=m), start, m).run(2 * m + 3 if start > 100 else m + 2)
+    for m in large:
+        cases.name('a large link of depth %d' % m)
+        Link(cases, at_depth(plans.LARGEST, m), 127 - m // 2, m, 0).run(m + 4, 1)
+    for m in all_wrong:
+        cases.name('every refused step at depth %d' % m)
+        Link(cases, plans.near_a([(850, 853)], [900], M=m), 126, m).run(m + 3, None)
+    for m in all_wrong:
+        cases.name('a receiver that comes late, at depth %d' % m)
+        link = Link(cases, plans.near_a(M=m), 120, m)
+        for t in range(m + 2):
+            link.send(t % 4 == 3)
+        link.listen(1)
+        link.run(m + 3, 0)
+    cases.name('a long link')
+    Link(cases, plans.near_a(M=3), 5, 9).run(long, 0)
+
+
+def check_page():
+    """The four answers that docs/C-HOST.md shows."""
+    model, a, page = Interface(), plans.PLAN_A, (ROOT / 'docs' / 'C-HOST.md').read_text()
+    count = model.data_count(a, 127)
+    steps = {'plan': a, 'store': bytes(3400), 'symbol': bytes(2 * SYMBOL)}
+    data = bytes(2 * count)
+    for name, numbers, given in (('judge', (), {'plan': a}),
+                                 ('judge', (), {'plan': plans.near_a([(850, 854)])}),
+                                 ('emit', (127, 0), {**steps, 'data': with_cell(data, 7, 16384)}),
+                                 ('emit', (127, 0), {**steps, 'data': data})):
+        returned, after = model.call(name, numbers, {**given, 'answer': bytes(ANSWER)})
+        shown = '| %d | `%s`' % (returned, after['answer'].hex(' ', 4).upper())
+        assert shown in page, 'docs/C-HOST.md should have ' + shown
+
+
+def check_reached(cases):
+    """Each call gave every ground that headend.h says it can give, and no other."""
+    for name, (*_, grounds) in CALLS.items():
+        assert cases.reached[name] == {0} | grounds, (name, cases.reached[name] ^ ({0} | grounds))
+
+
+def write(path, small):
+    cases = Cases(path)
+    verdicts(cases, 0 if small else 600)
+    roles(cases, range(0, 4096, 127) if small else range(4096))
+    counts(cases, (0, 1, 63, 127) if small else range(128))
+    refused_plans(cases)
+    lent_rooms(cases)
+    any_states(cases, (1, 31) if small else (1, 2, 3, 4, 7, 16, 31, 32))
+    runs(cases, (1, 3, 4) if small else range(1, 33), (2,) if small else (1, 2, 3, 4, 7, 31, 32),
+         (1, 4) if small else (1, 2, 4, 7), 5 if small else 140)
+    check_reached(cases)
+    check_page()
+    cases.end()
+    print('%d calls written' % cases.calls)
+
+
+def main():
+    arguments = sys.argv[1:]
+    if len(arguments) == 2 and arguments[0] == '--small':
+        write(arguments[1], True)
+    elif len(arguments) == 1 and not arguments[0].startswith('-'):
+        write(arguments[0], False)
+    else:
+        sys.exit(__doc__)
+
+
+if __name__ == '__main__':
+    main()
