@@ -213,7 +213,7 @@ static inline uint32_t take_pilots(struct plan *s, const uint16_t *rec)
 static uint32_t window(const uint16_t *x, uint32_t n, uint32_t a, uint32_t width, uint32_t size, uint32_t most)
 {
     uint16_t near = 0;
-    if (width + 1 < size || n <= most)
+    if (width < size || n <= most)
         return SUBCARRIERS;
     for (uint32_t q = 0; q < n - most; q++)
         near |= (uint16_t)(x[q + most] - x[q]) < size;
@@ -233,7 +233,7 @@ struct found {
 
 static void end_band(struct found *f, uint32_t a, uint32_t b, const uint16_t *x, uint32_t n)
 {
-    uint32_t width = b - a;
+    uint32_t width = b - a + 1;
     if (width < 40 && f->narrow == SUBCARRIERS)
         f->narrow = a;
     f->wide |= width >= 440;
@@ -288,7 +288,8 @@ static inline uint32_t measure_bands(struct plan *s, uint64_t edges)
         return refuse(s, 9, f.narrow);
     if (!f.wide)
         return refuse(s, 10, 0);
-    if (5 * f.gone > f.last - f.first)
+    uint32_t span = f.last - f.first + 1;
+    if (5 * f.gone > span)
         return refuse(s, 11, 0);
     if (f.crowded < SUBCARRIERS)
         return refuse(s, 12, f.crowded);
@@ -296,7 +297,7 @@ static inline uint32_t measure_bands(struct plan *s, uint64_t edges)
         return refuse(s, 13, f.long_window);
     if (f.short_window < SUBCARRIERS)
         return refuse(s, 14, f.short_window);
-    s->n = f.last + 1 - f.first - f.gone - 16 - s->pilots;
+    s->n = span - f.gone - 16 - s->pilots;
     return s->n > CELLS ? refuse(s, 15, 0) : 0;
 }
 

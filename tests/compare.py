@@ -34,9 +34,9 @@ def spans(rng):
     below = rng.choice([0, 1, 60, 200, 320, 321, rng.randint(0, 3700)])
     a = max(148, l - 56 - below)
     need = rng.choice([438, 439, 440, 440, 440, 441, 460, 600, 1200, 3800])
-    b = min(3948, max(l + 63, a + need))
-    if b - a < need and need < 3000:
-        a = max(148, min(a, b - need))
+    b = min(3948, max(l + 63, a + need - 1))
+    if b - a + 1 < need and need < 3000:
+        a = max(148, min(a, b - need + 1))
     return l, a, b
 
 
@@ -211,28 +211,28 @@ def near_8(rng):
 
 def two_or_three_bands(rng, widths, gaps):
     """A band of width 440 or so, and one or two others above it."""
-    b = 1240 + rng.choice([0, 0, 0, 0, 1, 200])
+    b = 1239 + rng.choice([0, 0, 0, 0, 1, 200])
     ranges = [(0, 799)]
     found = [(800, b)]
     for _ in range(rng.choice([1, 1, 2])):
         a = b + 1 + rng.choice(gaps)
         ranges.append((b + 1, a - 1))
-        b = a + rng.choice(widths)
+        b = a + rng.choice(widths) - 1
         found.append((a, b))
     return ranges + [(b + 1, 4095)], found
 
 
 def near_9(rng):
-    ranges, _ = two_or_three_bands(rng, [0, 1, 38, 39, 39, 40, 40, 41, 100], [19, 20, 20, 21, 40])
+    ranges, _ = two_or_three_bands(rng, [1, 2, 38, 39, 39, 40, 40, 41, 100], [19, 20, 20, 21, 40])
     return plan(972, 4, ranges)
 
 
 def near_10(rng):
     a = rng.choice([800, 700, 916])
-    b = a + rng.choice([438, 439, 439, 440, 441])
+    b = a + rng.choice([438, 439, 439, 440, 441]) - 1
     ranges = outside(a, b)
     if rng.random() < 0.5:
-        top = b + 21 + rng.choice([438, 439, 440])
+        top = b + 20 + rng.choice([438, 439, 440])
         ranges = [(0, a - 1), (b + 1, b + 20), (top + 1, 4095)]
     if rng.random() < 0.3:
         k = rng.randint(a + 1, b - 1)
@@ -243,8 +243,8 @@ def near_10(rng):
 def near_11(rng):
     # 4 x gap = 441 + width is equality
     gap = rng.randint(121, 300)
-    width = max(0, 4 * gap - 441 + rng.choice([-2, -1, -1, 0, 0, 1, 5]))
-    ranges = [(0, 799), (1241, 1240 + gap), (1242 + gap + width, 4095)]
+    width = max(1, 4 * gap - 441 + rng.choice([-2, -1, -1, 0, 0, 1, 5]))
+    ranges = [(0, 799), (1241, 1240 + gap), (1241 + gap + width, 4095)]
     for _ in range(rng.choice([0, 0, 1, 2])):
         ranges += singles(rng.randint(1040, 1239))
     return plan(972, 4, ranges)
@@ -254,7 +254,7 @@ def near_12(rng):
     ranges, found = two_or_three_bands(rng, [40, 59, 60, 79, 80, 99, 100, 119, 120, 140],
                                        [20, 25])
     for a, b in found[1:]:
-        count = (b - a) // 20 + rng.choice([-1, 0, 0, 1])
+        count = (b - a + 1) // 20 + rng.choice([-1, 0, 0, 1])
         ranges += singles(*rng.sample(range(a + 1, b), max(0, count)))
     return plan(972, 4, ranges)
 

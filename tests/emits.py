@@ -88,7 +88,7 @@ import stored
 from emitter import Emitter, EmitterLimits
 from make_plans import all_plans
 from model import Limits
-from plans import (PLAN_A, band_below, entries, equal_12, near_a, near_b, outside, plan,
+from plans import (PLAN_A, band_below, entries, near_a, near_b, outside, plan,
                    second, singles, spread)
 from stored import PRIME, mix, mix_cells
 
@@ -182,7 +182,12 @@ def all_cases():
     case('pilots on all of the grid, an exclusion, depth 4, 4 x 105 ranks',
          near_a(singles(1100), [852, 980, 1108, 1236]), 127, 420)
     case('120 pilots, depth 5, 5 x 61 ranks', near_a(pilots=range(1060, 1180), M=5), 127, 305)
-    case('22 single exclusions, depth 31, 31 x 13 ranks', second(equal_12(), 0, 31), 64, 403)
+    case('22 single exclusions, depth 31, 31 x 13 ranks',
+         near_a(singles(*plans.TWENTY_TWO), L=1017, M=31), 64, 403)
+    # 440 subcarriers, 22 excluded, 8 of the PLC, 8 and 120 pilots.
+    case('the fewest ranks that a plan can have, depth 32',
+         plan(1017, 32, outside(800, 1239) + singles(*plans.TWENTY_TWO),
+              [*range(825, 921), *range(1125, 1149)]), 100, 282)
     case('off the chain: 0xFF, depth 16',
          spread(entries(972, 16, outside(800, 1240)), [0, 3, 7], 9), 64, 425)
 

@@ -40,12 +40,14 @@ def all_plans():
     made = [
         ('empty', b'', 'refused 1 0', ('-', '-', 'no bytes at all', '-')),
         built('plan-a', 972, 4, A, want='ok 425 4'),
-        built('plan-a-active-800-1239', 972, 4, outside(800, 1239), want='refused 10 0'),
+        built('plan-a-active-800-1239', 972, 4, outside(800, 1239), want='ok 424 4'),
+        built('plan-a-active-800-1238', 972, 4, outside(800, 1238), want='refused 10 0'),
         built('plan-a-excluded-850-854', 972, 4, A + [(850, 854)], want='refused 14 835'),
         built('plan-a-excluded-850-853', 972, 4, A + [(850, 853)], want='ok 421 3'),
         built('plan-a-singles-810-870', 972, 4, A + singles(*range(810, 871, 10)),
               want='refused 13 800'),
-        built('plan-a-excluded-1181-1200', 972, 4, A + [(1181, 1200)], want='refused 9 1201'),
+        built('plan-a-excluded-1182-1201', 972, 4, A + [(1182, 1201)], want='refused 9 1202'),
+        built('plan-a-excluded-1181-1200', 972, 4, A + [(1181, 1200)], want='refused 10 0'),
         built('plan-a-excluded-1180-1199', 972, 4, A + [(1180, 1199)], want='refused 10 0'),
         built('largest', 2000, 32, FULL, pilots_of_full(40), want='ok 3745 30',
               pilots_text='40: 200, 210 up to 590'),
@@ -71,16 +73,23 @@ def all_plans():
         built('refused-06', 972, 4, outside(147, 1240), want='refused 6 147'),
         built('refused-07', 972, 4, A + [(916, 916)], want='refused 7 916'),
         built('refused-08', 972, 4, A, [900, 901, 900], want='refused 8 5'),
-        built('refused-09', 972, 4, A[:1] + [(1241, 1299), (1340, 4095)], want='refused 9 1300'),
-        built('refused-10', 972, 4, outside(850, 1289), want='refused 10 0'),
-        built('refused-11', 972, 4, A[:1] + [(1241, 1361), (1405, 4095)], want='refused 11 0'),
-        built('refused-12', 972, 4, A[:1] + [(1241, 1299), (1341, 4095)]
+        built('refused-09', 972, 4, A[:1] + [(1241, 1299), (1339, 4095)], want='refused 9 1300'),
+        built('refused-10', 972, 4, outside(850, 1288), want='refused 10 0'),
+        built('refused-11', 972, 4, A[:1] + [(1241, 1361), (1404, 4095)], want='refused 11 0'),
+        built('refused-12', 972, 4, A[:1] + [(1241, 1299), (1359, 4095)]
               + singles(1310, 1320, 1330), want='refused 12 1300'),
         built('refused-13', 1500, 1, outside(1000, 2000)
               + singles(1010, 1030, 1050, 1070, 1090, 1110, 1129), want='refused 13 1010'),
         built('refused-14', 1500, 1, outside(1000, 2000) + [(1100, 1103), (1119, 1119)],
               want='refused 14 1100'),
         built('refused-15', 2000, 32, FULL, want='refused 15 0'),
+        built('limit-09', 972, 4, A[:1] + [(1241, 1299), (1340, 4095)], want='ok 465 4'),
+        built('limit-10', 972, 4, outside(850, 1289), want='ok 424 4'),
+        built('limit-11', 972, 4, A[:1] + [(1241, 1361), (1405, 4095)], want='ok 468 5'),
+        built('limit-12', 972, 4, A[:1] + [(1241, 1299), (1360, 4095)]
+              + singles(1310, 1320, 1330), want='ok 482 4'),
+        ('limit-09-to-12', plans.AT_LIMITS, 'ok 460 5',
+         ('972', '4', '0-799, 1395-4095, 1240-1354, 810-811, 1360-1361', 'none')),
     ]
     return made
 
@@ -92,7 +101,10 @@ this page; with `--check` it compares both. A plan is the PLC record, then one
 record for each range, then one for each further pilot, chained in this order,
 unless the table says otherwise. The last column is what `plancheck` prints:
 `ok`, N_I and the number of subcarriers scattered at phase 0, or `refused`, the
-ground and the place.
+ground and the place. `limit-09` to `limit-12` stand right at the limits that
+`refused-09` to `refused-12` just miss: a second band of 40 subcarriers, a widest
+band of 440, a fifth of the span excluded, a twentieth of a band excluded;
+`limit-09-to-12` stands at all four.
 
 | File | Bytes | L | M | Excluded ranges | Further pilots | Line |
 |---|---|---|---|---|---|---|

@@ -40,7 +40,7 @@ class Limits:
     distance_4: int = 47
     plc_width: int = 8           # the PLC is L to L+7
     exclusion_band: int = 20     # a run this long is an exclusion band
-    narrow: int = 40             # ground 9: least width of a band
+    narrow: int = 40             # ground 9: least width of a band, in subcarriers
     wide: int = 440              # ground 10: width that one band must have
     times_span: int = 5          # ground 11
     times_width: int = 20        # ground 12
@@ -209,6 +209,11 @@ class Model:
         edges = self.exclusion_bands(p)
         return [(low[1] + 1, high[0] - 1) for low, high in zip(edges, edges[1:])]
 
+    def width(self, a, b):
+        """The width of a band a to b, and the span from a to b: subcarriers are
+        counted, both ends included."""
+        return b - a + 1
+
     def window(self, p, size, most):
         """First subcarrier of the lowest window with more than most excluded."""
         for a, b in self.bands(p):
@@ -244,27 +249,27 @@ class Model:
 
     def ground_9(self, p):
         for a, b in self.bands(p):
-            if b - a < self.limits.narrow:
+            if self.width(a, b) < self.limits.narrow:
                 return a
         return None
 
     def ground_10(self, p):
         for a, b in self.bands(p):
-            if b - a >= self.limits.wide:
+            if self.width(a, b) >= self.limits.wide:
                 return None
         return 0
 
     def ground_11(self, p):
         lowest = p.excluded.find(0)
         highest = p.excluded.rfind(0)
-        if self.limits.times_span * p.count(lowest, highest) > highest - lowest:
+        if self.limits.times_span * p.count(lowest, highest) > self.width(lowest, highest):
             return 0
         return None
 
     def ground_12(self, p):
         # Inside a band every excluded subcarrier is individually excluded.
         for a, b in self.bands(p):
-            if self.limits.times_width * p.count(a, b) > b - a:
+            if self.limits.times_width * p.count(a, b) > self.width(a, b):
                 return a
         return None
 

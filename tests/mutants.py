@@ -28,12 +28,12 @@ EQUIVALENT = {
     'window 13: the last window of a band not tried':
         'b is active, so the window one lower holds as many; it is in the band '
         'unless the band has exactly 120 subcarriers, and then 7 excluded are '
-        'refused by ground 12 (140 > 119).',
+        'refused by ground 12 (140 > 120).',
     'window 14: the last window of a band not tried':
         'b is active, so the window one lower holds as many; it is in the band '
-        'as ground 9 leaves no band below 41 subcarriers.',
+        'as ground 9 leaves no band below 40 subcarriers.',
     'window 13: a shorter band is one window':
-        'With 7 excluded such a band is refused by ground 12 (140 > 118).',
+        'With 7 excluded such a band is refused by ground 12 (140 > 119).',
     'pair: 15 named where 10 holds':
         'Ground 15 needs 3746 + 16 active of the 3801 that ground 6 leaves, so '
         'at most 39 are excluded between them: at most one exclusion band, '
@@ -477,22 +477,22 @@ class EightRepeated(Model):
 def add_band_places():
     class Nine(Model):
         def ground_9(self, p):
-            bad = [a for a, b in self.bands(p) if b - a < 40]
+            bad = [a for a, b in self.bands(p) if self.width(a, b) < 40]
             return bad[-1] if bad else None
 
     class NineTop(Model):
         def ground_9(self, p):
-            bad = [b for a, b in self.bands(p) if b - a < 40]
+            bad = [b for a, b in self.bands(p) if self.width(a, b) < 40]
             return bad[0] if bad else None
 
     class Twelve(Model):
         def ground_12(self, p):
-            bad = [a for a, b in self.bands(p) if 20 * p.count(a, b) > b - a]
+            bad = [a for a, b in self.bands(p) if 20 * p.count(a, b) > self.width(a, b)]
             return bad[-1] if bad else None
 
     class TwelveTop(Model):
         def ground_12(self, p):
-            bad = [b for a, b in self.bands(p) if 20 * p.count(a, b) > b - a]
+            bad = [b for a, b in self.bands(p) if 20 * p.count(a, b) > self.width(a, b)]
             return bad[0] if bad else None
     add('place 9: highest', Nine())
     add('place 9: upper end of the band', NineTop())
@@ -673,126 +673,120 @@ class EndsOnly(Model):
         return first == 0 or last == 4095
 
 
-def add_bands():
-    class NineCount(Model):
-        def ground_9(self, p):
-            return next((a for a, b in self.bands(p) if b - a + 1 < 40), None)
+def add_widths():
+    """Width and span in steps, as they once were, or one too many: in one ground, or in
+    all four."""
+    for what, less in (('in steps', 1), ('one too many', -1)):
+        class Other(Model):
+            def width(self, a, b, less=less):
+                return Model.width(self, a, b) - less
+        add('grounds 9 to 12: width ' + what, Other())
+        for ground in (9, 10, 11, 12):
+            class InOne(Model):
+                pass
+            name = 'ground_%d' % ground
+            setattr(InOne, name, getattr(Other(), name))
+            add('ground %d: width %s' % (ground, what), InOne())
 
+
+def add_bands():
     class NineFirst(Model):
         def ground_9(self, p):
             a, b = self.bands(p)[0]
-            return a if b - a < 40 else None
+            return a if self.width(a, b) < 40 else None
 
     class NineLast(Model):
         def ground_9(self, p):
             a, b = self.bands(p)[-1]
-            return a if b - a < 40 else None
+            return a if self.width(a, b) < 40 else None
 
     class NineActive(Model):
         def ground_9(self, p):
             return next((a for a, b in self.bands(p)
-                         if b - a - p.count(a, b) < 40), None)
-
-    class TenCount(Model):
-        def ground_10(self, p):
-            return None if any(b - a + 1 >= 440 for a, b in self.bands(p)) else 0
+                         if self.width(a, b) - p.count(a, b) < 40), None)
 
     class TenFirst(Model):
         def ground_10(self, p):
             a, b = self.bands(p)[0]
-            return None if b - a >= 440 else 0
+            return None if self.width(a, b) >= 440 else 0
 
     class TenLast(Model):
         def ground_10(self, p):
             a, b = self.bands(p)[-1]
-            return None if b - a >= 440 else 0
+            return None if self.width(a, b) >= 440 else 0
 
     class TenPlc(Model):
         def ground_10(self, p):
-            return None if any(b - a >= 440 for a, b in self.bands(p)
+            return None if any(self.width(a, b) >= 440 for a, b in self.bands(p)
                                if a <= p.l <= b) else 0
 
     class TenActive(Model):
         def ground_10(self, p):
-            return None if any(b - a - p.count(a, b) >= 440
+            return None if any(self.width(a, b) - p.count(a, b) >= 440
                                for a, b in self.bands(p)) else 0
 
     class TenEvery(Model):
         def ground_10(self, p):
-            return None if all(b - a >= 440 for a, b in self.bands(p)) else 0
-
-    class ElevenCount(Model):
-        def ground_11(self, p):
-            low, high = p.excluded.find(0), p.excluded.rfind(0)
-            return 0 if 5 * p.count(low, high) > high - low + 1 else None
+            return None if all(self.width(a, b) >= 440 for a, b in self.bands(p)) else 0
 
     class ElevenSingles(Model):
         def ground_11(self, p):
             low, high = p.excluded.find(0), p.excluded.rfind(0)
             n = sum(p.count(a, b) for a, b in self.bands(p))
-            return 0 if 5 * n > high - low else None
+            return 0 if 5 * n > self.width(low, high) else None
 
     class ElevenBands(Model):
         def ground_11(self, p):
             low, high = p.excluded.find(0), p.excluded.rfind(0)
             n = p.count(low, high) - sum(p.count(a, b) for a, b in self.bands(p))
-            return 0 if 5 * n > high - low else None
+            return 0 if 5 * n > self.width(low, high) else None
 
     class ElevenAll(Model):
         def ground_11(self, p):
             low, high = p.excluded.find(0), p.excluded.rfind(0)
-            return 0 if 5 * p.count(0, 4095) > high - low else None
+            return 0 if 5 * p.count(0, 4095) > self.width(low, high) else None
 
     class ElevenWidths(Model):
         def ground_11(self, p):
             low, high = p.excluded.find(0), p.excluded.rfind(0)
             return 0 if 5 * p.count(low, high) > sum(
-                b - a for a, b in self.bands(p)) else None
-
-    class TwelveCount(Model):
-        def ground_12(self, p):
-            return next((a for a, b in self.bands(p)
-                         if 20 * p.count(a, b) > b - a + 1), None)
+                self.width(a, b) for a, b in self.bands(p)) else None
 
     class TwelveFirst(Model):
         def ground_12(self, p):
             a, b = self.bands(p)[0]
-            return a if 20 * p.count(a, b) > b - a else None
+            return a if 20 * p.count(a, b) > self.width(a, b) else None
 
     class TwelveLast(Model):
         def ground_12(self, p):
             a, b = self.bands(p)[-1]
-            return a if 20 * p.count(a, b) > b - a else None
+            return a if 20 * p.count(a, b) > self.width(a, b) else None
 
     class TwelveTogether(Model):
         def ground_12(self, p):
             bands = self.bands(p)
             n = sum(p.count(a, b) for a, b in bands)
-            return bands[0][0] if 20 * n > sum(b - a for a, b in bands) else None
+            return bands[0][0] if 20 * n > sum(self.width(a, b) for a, b in bands) else None
 
     class TwelveAny(Model):
         def ground_12(self, p):
             bands = self.bands(p)
             n = sum(p.count(a, b) for a, b in bands)
-            return next((a for a, b in bands if 20 * n > b - a), None)
+            return next((a for a, b in bands if 20 * n > self.width(a, b)), None)
 
     for name, cls in (
-            ('ground 9: width counted in subcarriers', NineCount),
             ('ground 9: lowest band only', NineFirst),
             ('ground 9: highest band only', NineLast),
             ('ground 9: width less the excluded', NineActive),
-            ('ground 10: width counted in subcarriers', TenCount),
             ('ground 10: lowest band only', TenFirst),
             ('ground 10: highest band only', TenLast),
             ('ground 10: the band of the PLC', TenPlc),
             ('ground 10: width less the excluded', TenActive),
             ('ground 10: every band', TenEvery),
-            ('ground 11: span counted in subcarriers', ElevenCount),
             ('ground 11: single exclusions only', ElevenSingles),
             ('ground 11: exclusion bands only', ElevenBands),
             ('ground 11: all excluded', ElevenAll),
             ('ground 11: widths for the span', ElevenWidths),
-            ('ground 12: width counted in subcarriers', TwelveCount),
             ('ground 12: lowest band only', TwelveFirst),
             ('ground 12: highest band only', TwelveLast),
             ('ground 12: all bands together', TwelveTogether),
@@ -905,6 +899,7 @@ def main():
     add_places()
     add_band_places()
     add_windows()
+    add_widths()
     add_bands()
     add_order()
     add_ranks()

@@ -123,13 +123,23 @@ OVERLAPPING_510 = plan(972, 4,
 # 150 single exclusions, 24 steps apart, below and above the PLC window.
 SINGLES_150 = full(singles(*range(160, 1940, 24), *range(2070, 3870, 24)))
 
-# 22 single exclusions in a band of width 440, no window too full.  L is 1017.
+# 22 single exclusions in a band 800 to 1239, no window too full.  L is 1017.
 LEFT = [801, 802, 803, 804, 821, 822, 921, 922, 923, 924, 941]
-TWENTY_TWO = LEFT + [2040 - k for k in LEFT]
+TWENTY_TWO = LEFT + [2039 - k for k in LEFT]
 
 
 def equal_12(extra=()):
-    return near_a(singles(*TWENTY_TWO, *extra), L=1017)
+    return plan(1017, 4, outside(800, 1239) + singles(*TWENTY_TWO, *extra))
+
+
+def three_bands(ranges=()):
+    """Plan A with a band of 40 subcarriers below it and one above it."""
+    return plan(972, 4, [(0, 699), (740, 799), (1241, 1299), (1340, 4095)] + list(ranges))
+
+
+# At the limits of grounds 9 to 12 at once: bands of 440 and 40 subcarriers, 5 x 119 = 595 = the
+# span, 20 x 2 = 40.
+AT_LIMITS = plan(972, 4, [(0, 799), (1395, 4095), (1240, 1354), (810, 811), (1360, 1361)])
 
 
 def odd(start, count):
@@ -152,8 +162,8 @@ def stack(ground):
         pilots = []
     if ground >= 10:
         top = [(1191, 4095)]
-    # 880 to 1079 with ten exclusions, then a band 1150 to 1180 (or 1190)
-    full_windows = [(1040, 1044)] + odd(1050, 5)
+    # 880 to 1079 with eleven exclusions, then a band 1150 to 1180 (or 1190)
+    full_windows = [(1040, 1044)] + odd(1050, 6)
     if ground <= 10:
         return plan(972, 4, low + [(1080, 1149)] + top + full_windows + plc, pilots)
     if ground == 11:    # 880 to 1320, then 1600 to 1640 with three exclusions
@@ -178,12 +188,16 @@ def all_cases():
     case('plan A', PLAN_A, 'ok 425 4')
     case('plan A built', near_a(), 'ok 425 4')
     case('empty', b'', 'refused 1 0')
-    case('plan A active 800 to 1239', plan(972, 4, outside(800, 1239)), 'refused 10 0')
+    case('plan A active 800 to 1239', plan(972, 4, outside(800, 1239)), 'ok 424 4')
+    case('plan A active 800 to 1238', plan(972, 4, outside(800, 1238)), 'refused 10 0')
     case('plan A without 850 to 854', near_a([(850, 854)]), 'refused 14 835')
     case('plan A without 850 to 853', near_a([(850, 853)]), 'ok 421 3')
     case('plan A singles 810 to 870', near_a(singles(*range(810, 871, 10))), 'refused 13 800')
-    case('plan A without 1181 to 1200', near_a([(1181, 1200)]), 'refused 9 1201')
+    case('plan A without 1182 to 1201', near_a([(1182, 1201)]), 'refused 9 1202')
+    case('plan A without 1181 to 1200', near_a([(1181, 1200)]), 'refused 10 0')
     case('plan A without 1180 to 1199', near_a([(1180, 1199)]), 'refused 10 0')
+    case('plan A without 839 to 858', near_a([(839, 858)]), 'refused 9 800')
+    case('plan A without 840 to 859', near_a([(840, 859)]), 'refused 10 0')
     case('active 148 to 3948, 40 pilots', LARGEST, 'ok 3745 30')
     case('active 148 to 3948, 39 pilots', ONE_PILOT_FEWER, 'refused 15 0')
 
@@ -394,7 +408,8 @@ def all_cases():
     case('touching, an exclusion band together',
          plan(1500, 1, outside(1000, 2000) + [(1100, 1109), (1110, 1119)]), 'ok 965')
     case('overlapping the lower exclusion band', near_a([(700, 799)]), 'ok 425 4')
-    case('touching the lower exclusion band', near_a([(800, 800)]), 'refused 10 0')
+    case('touching the lower exclusion band', near_a([(800, 800)]), 'ok 424 4')
+    case('touching the lower exclusion band, two', near_a([(800, 801)]), 'refused 10 0')
     case('range 0 to 0 and 1 to 799', plan(972, 4, [(0, 0), (1, 799), (1241, 4095)]), 'ok 425 4')
     case('all excluded but 800 to 1240, from both sides',
          plan(972, 4, [(0, 700), (600, 799), (1241, 3000), (2000, 4095)]), 'ok 425 4')
@@ -498,24 +513,31 @@ def all_cases():
     case('scattered far below L', plan(3885, 7, outside(1000, 3948), [1013]), 'ok 2932')
     case('scattered far above L', plan(204, 7, outside(148, 2100)), 'ok 1937')
 
-    # Ground 9: narrow bands.
-    case('upper band of width 39', two_bands(1300, 1339), 'refused 9 1300')
-    case('upper band of width 40', two_bands(1300, 1340), 'ok 466')
-    case('upper band of width 41', two_bands(1300, 1341), 'ok 467')
-    case('lower band of width 39', band_below(700, 739), 'refused 9 700')
-    case('lower band of width 40', band_below(700, 740), 'ok 466')
+    # Ground 9: narrow bands.  A width is a number of subcarriers.
+    case('upper band of width 39', two_bands(1300, 1338), 'refused 9 1300')
+    case('upper band of width 40', two_bands(1300, 1339), 'ok 465')
+    case('upper band of width 41', two_bands(1300, 1340), 'ok 466')
+    case('lower band of width 39', band_below(700, 738), 'refused 9 700')
+    case('lower band of width 40', band_below(700, 739), 'ok 465')
     case('band of one subcarrier', near_b([(1099, 1118), (1120, 1139)]), 'refused 9 1119')
-    case('band of width 38', near_b([(1100, 1119), (1159, 1178)]), 'refused 9 1120')
-    case('band of width 39 between two of 20', near_b([(1100, 1119), (1160, 1179)]), 'refused 9 1120')
-    case('band of width 40 between two of 20', near_b([(1100, 1119), (1161, 1180)]), 'ok 945')
+    case('band of width 38', near_b([(1100, 1119), (1158, 1177)]), 'refused 9 1120')
+    case('band of width 39 between two of 20', near_b([(1100, 1119), (1159, 1178)]), 'refused 9 1120')
+    case('band of width 40 between two of 20', near_b([(1100, 1119), (1160, 1179)]), 'ok 945')
+    case('bands of width 40 below and above', three_bands(), 'ok 505')
     case('narrow bands below and above', plan(972, 4, [(0, 699), (731, 799), (1241, 1299), (1331, 4095)]),
          'refused 9 700')
     case('two narrow bands above', near_b([(1700, 1719), (1750, 1769), (1800, 1819)]),
          'refused 9 1720')
-    case('narrow band with an exclusion in it', two_bands(1300, 1339, singles(1320)), 'refused 9 1300')
-    case('narrow lowest band at 148', plan(972, 4, [(0, 147), (188, 207), (1241, 4095)]), 'refused 9 148')
-    case('narrow highest band at 3948', plan(3800, 4, [(0, 3388), (3889, 3908), (3949, 4095)]),
-         'refused 9 3909')
+    case('narrow band with an exclusion in it', two_bands(1300, 1338, singles(1320)), 'refused 9 1300')
+    case('band of width 40 with an exclusion in it', two_bands(1300, 1339, singles(1320)), 'ok 464')
+    case('narrow lowest band at 148', plan(972, 4, [(0, 147), (187, 206), (1241, 4095)]), 'refused 9 148')
+    case('lowest band of width 40 at 148', plan(972, 4, [(0, 147), (188, 207), (1241, 4095)]), 'ok 1057')
+    case('narrow highest band at 3948', plan(3800, 4, [(0, 3388), (3890, 3909), (3949, 4095)]),
+         'refused 9 3910')
+    case('highest band of width 40 at 3948', plan(3800, 4, [(0, 3388), (3889, 3908), (3949, 4095)]),
+         'ok 524')
+
+    case('at the limits of grounds 9 to 12', AT_LIMITS, 'ok 460')
 
     # Exclusion bands: runs of 19 and of 20.
     case('run of 20', near_b([(1100, 1119)]), 'ok 965')
@@ -530,62 +552,73 @@ def all_cases():
     case('run of 20 splits the only wide band', near_a([(860, 879)]), 'refused 10 0')
 
     # Ground 10: no band of width 440.
-    case('width 440', plan(972, 4, outside(900, 1340)), 'ok 425')
-    case('width 439', plan(972, 4, outside(900, 1339)), 'refused 10 0')
-    case('width 441', plan(972, 4, outside(900, 1341)), 'ok 426')
-    case('two bands of width 439', plan(972, 4, [(0, 799), (1240, 1259), (1700, 4095)]), 'refused 10 0')
-    case('bands of width 439 and 440', plan(972, 4, [(0, 799), (1240, 1259), (1701, 4095)]), 'ok 865')
-    case('bands of width 440 and 439', plan(972, 4, [(0, 799), (1241, 1259), (1700, 4095)]),
-         'refused 13 1128')
-    case('bands of width 440 and 439, gap 20', plan(972, 4, [(0, 799), (1241, 1260), (1701, 4095)]),
-         'ok 865')
-    case('eight bands of width 399',
+    case('width 440', plan(972, 4, outside(900, 1339)), 'ok 424')
+    case('width 439', plan(972, 4, outside(900, 1338)), 'refused 10 0')
+    case('width 441', plan(972, 4, outside(900, 1340)), 'ok 425')
+    case('width 440, the lowest there is', plan(204, 4, outside(148, 587)), 'ok 424')
+    case('width 439, the lowest there is', plan(204, 4, outside(148, 586)), 'refused 10 0')
+    case('width 440, the highest there is', plan(3885, 4, outside(3509, 3948)), 'ok 424')
+    case('width 439, the highest there is', plan(3885, 4, outside(3510, 3948)), 'refused 10 0')
+    case('two bands of width 439', plan(972, 4, [(0, 799), (1239, 1258), (1698, 4095)]), 'refused 10 0')
+    case('bands of width 439 and 440', plan(972, 4, [(0, 799), (1239, 1258), (1699, 4095)]), 'ok 863')
+    case('widths 440 and 439, but 19 between', plan(972, 4, [(0, 799), (1240, 1258), (1698, 4095)]),
+         'refused 13 1127')
+    case('bands of width 440 and 439', plan(972, 4, [(0, 799), (1240, 1259), (1699, 4095)]),
+         'ok 863')
+    case('eight bands of width 400',
          plan(800, 4, [(0, 199)] + [(600 + 420 * n, 619 + 420 * n) for n in range(7)]
               + [(3540, 4095)]), 'refused 10 0')
+    case('eight bands, the last of width 439',
+         plan(800, 4, [(0, 199)] + [(600 + 420 * n, 619 + 420 * n) for n in range(7)]
+              + [(3579, 4095)]), 'refused 10 0')
     case('eight bands, the last of width 440',
          plan(800, 4, [(0, 199)] + [(600 + 420 * n, 619 + 420 * n) for n in range(7)]
-              + [(3581, 4095)]), 'ok 3225')
+              + [(3580, 4095)]), 'ok 3224')
 
-    # Ground 11: five times the excluded exceeds the span.
-    # 800 to 1240, 121 excluded, 1362 to 1405: 5 x 121 = 605 = the span.
-    case('20 per cent, equal', two_bands(1362, 1405), 'ok 469')
-    case('20 per cent, one step less span', two_bands(1362, 1404), 'refused 11 0')
-    case('20 per cent, one step more span', two_bands(1362, 1406), 'ok 470')
-    case('20 per cent, equal, and a single', two_bands(1362, 1405, singles(1100)), 'refused 11 0')
-    case('20 per cent, five more span and a single', two_bands(1362, 1410, singles(1100)), 'ok 473')
-    case('20 per cent, four more span and a single', two_bands(1362, 1409, singles(1100)), 'refused 11 0')
-    case('20 per cent, lower band, equal', band_below(635, 678), 'ok 469')
-    case('20 per cent, lower band, one step less', band_below(636, 678), 'refused 11 0')
-    case('20 per cent, singles only, one above', near_a(odd(1037, 89)), 'refused 11 0')
-    case('20 per cent, singles only, equal', near_a(odd(1037, 88)), 'refused 12 800')
-    # 148 to 1348, then 1849 to 2648: 500 excluded, span 2500.
+    # Ground 11: five times the excluded exceeds the span, both ends counted.
+    # 800 to 1240, 121 excluded, 1362 to 1404: 5 x 121 = 605 = the span.
+    case('20 per cent, equal', two_bands(1362, 1404), 'ok 468')
+    case('20 per cent, one less span', two_bands(1362, 1403), 'refused 11 0')
+    case('20 per cent, one more span', two_bands(1362, 1405), 'ok 469')
+    case('20 per cent, equal, and a single', two_bands(1362, 1404, singles(1100)), 'refused 11 0')
+    case('20 per cent, five more span and a single', two_bands(1362, 1409, singles(1100)), 'ok 472')
+    case('20 per cent, four more span and a single', two_bands(1362, 1408, singles(1100)), 'refused 11 0')
+    case('20 per cent, lower band, equal', band_below(636, 678), 'ok 468')
+    case('20 per cent, lower band, one less', band_below(637, 678), 'refused 11 0')
+    # 800 to 1239: 5 x 88 = 440 = the span.
+    case('20 per cent, singles only, one above', plan(972, 4, outside(800, 1239) + odd(1037, 89)),
+         'refused 11 0')
+    case('20 per cent, singles only, equal', plan(972, 4, outside(800, 1239) + odd(1037, 88)),
+         'refused 12 800')
+    # 148 to 1348, then 1849 to 2647: 500 excluded, span 2500.
     case('20 per cent, two wide bands, equal',
-         plan(972, 4, [(0, 147), (1349, 1848), (2649, 4095)]), 'ok 1985')
+         plan(972, 4, [(0, 147), (1349, 1848), (2648, 4095)]), 'ok 1984')
     case('20 per cent, two wide bands, one above',
-         plan(972, 4, [(0, 147), (1349, 1848), (2648, 4095)]), 'refused 11 0')
-    # 800 to 1240, 60 excluded, 1301 to 1341, 71 excluded, 1413 to 1455: 655.
+         plan(972, 4, [(0, 147), (1349, 1848), (2647, 4095)]), 'refused 11 0')
+    # 800 to 1240, 60 excluded, 1301 to 1341, 71 excluded, 1413 to 1454: 655.
     case('20 per cent, three bands, equal',
-         plan(972, 4, [(0, 799), (1241, 1300), (1342, 1412), (1456, 4095)]), 'ok 509')
+         plan(972, 4, [(0, 799), (1241, 1300), (1342, 1412), (1455, 4095)]), 'ok 508')
     case('20 per cent, three bands, one above',
-         plan(972, 4, [(0, 799), (1241, 1300), (1342, 1412), (1455, 4095)]), 'refused 11 0')
+         plan(972, 4, [(0, 799), (1241, 1300), (1342, 1412), (1454, 4095)]), 'refused 11 0')
 
     # Ground 12: twenty times a band's excluded exceeds its width.
-    case('5 per cent, width 40, two', two_bands(1300, 1340, singles(1310, 1330)), 'ok 464')
-    case('5 per cent, width 40, three', two_bands(1300, 1340, singles(1310, 1320, 1330)), 'refused 12 1300')
-    case('5 per cent, width 59, three', two_bands(1300, 1359, singles(1310, 1320, 1330)), 'refused 12 1300')
-    case('5 per cent, width 60, three', two_bands(1300, 1360, singles(1310, 1320, 1330)), 'ok 483')
-    case('5 per cent, width 440, 22', equal_12(), 'ok 403')
+    case('5 per cent, width 40, two', two_bands(1300, 1339, singles(1310, 1330)), 'ok 463')
+    case('5 per cent, width 40, three', two_bands(1300, 1339, singles(1310, 1320, 1330)), 'refused 12 1300')
+    case('5 per cent, width 59, three', two_bands(1300, 1358, singles(1310, 1320, 1330)), 'refused 12 1300')
+    case('5 per cent, width 60, three', two_bands(1300, 1359, singles(1310, 1320, 1330)), 'ok 482')
+    case('5 per cent, width 440, 22', equal_12(), 'ok 402')
     case('5 per cent, width 440, 23', equal_12([870]), 'refused 12 800')
     case('5 per cent, width 440, 23, all windows fair', equal_12([942]), 'refused 12 800')
-    case('5 per cent, two bands over', plan(
-        972, 4, [(0, 699), (741, 799), (1241, 1299), (1341, 4095)]
-        + singles(1310, 1320, 1330, 710, 720, 730)), 'refused 12 700')
-    case('5 per cent, lower band over', band_below(700, 740, singles(710, 720, 730)), 'refused 12 700')
-    case('5 per cent, upper of three over', plan(
-        972, 4, [(0, 699), (741, 799), (1241, 1299), (1341, 4095)] + singles(1310, 1320, 1330, 710, 720)),
+    case('5 per cent, two bands over', three_bands(singles(1310, 1320, 1330, 710, 720, 730)),
+         'refused 12 700')
+    case('5 per cent, lower band over', band_below(700, 739, singles(710, 720, 730)), 'refused 12 700')
+    case('5 per cent, lower band, width 40, two', band_below(700, 739, singles(710, 720)), 'ok 463')
+    case('5 per cent, lower band, width 59, three', band_below(700, 758, singles(710, 720, 730)),
+         'refused 12 700')
+    case('5 per cent, lower band, width 60, three', band_below(700, 759, singles(710, 720, 730)), 'ok 482')
+    case('5 per cent, upper of three over', three_bands(singles(1310, 1320, 1330, 710, 720)),
          'refused 12 1300')
-    case('5 per cent, shared between bands', plan(
-        972, 4, [(0, 699), (741, 799), (1241, 1299), (1341, 4095)] + singles(1310, 1320, 710, 720)), 'ok 503')
+    case('5 per cent, shared between bands', three_bands(singles(1310, 1320, 710, 720)), 'ok 501')
 
     # Ground 13: windows of 120.
     six = (1010, 1030, 1050, 1070, 1090, 1110)
@@ -628,12 +661,12 @@ def all_cases():
          two_bands(1300, 1418, singles(1310, 1325, 1340, 1355, 1370, 1385, 1400)), 'refused 12 1300')
     case('120 subcarriers, seven',
          two_bands(1300, 1419, singles(1310, 1325, 1340, 1355, 1370, 1385, 1400)), 'refused 12 1300')
+    case('139 subcarriers, seven',
+         two_bands(1300, 1438, singles(1310, 1325, 1340, 1355, 1370, 1385, 1400)), 'refused 12 1300')
     case('140 subcarriers, seven',
-         two_bands(1300, 1439, singles(1310, 1325, 1340, 1355, 1370, 1385, 1400)), 'refused 12 1300')
-    case('141 subcarriers, seven',
-         two_bands(1300, 1440, singles(1310, 1325, 1340, 1355, 1370, 1385, 1400)), 'refused 13 1300')
-    case('141 subcarriers, seven, first to last 120',
-         two_bands(1300, 1440, singles(1310, 1325, 1340, 1355, 1370, 1385, 1430)), 'ok 559')
+         two_bands(1300, 1439, singles(1310, 1325, 1340, 1355, 1370, 1385, 1400)), 'refused 13 1300')
+    case('140 subcarriers, seven, first to last 120',
+         two_bands(1300, 1439, singles(1310, 1325, 1340, 1355, 1370, 1385, 1430)), 'ok 558')
 
     # Ground 14: windows of 20.
     case('four together', near_b([(1100, 1103)]), 'ok 981')
@@ -675,14 +708,14 @@ def all_cases():
     case('39 pilots and the same range often', full([(1000, 1000)] * 5, pilots_of_full(39)), 'ok 3745')
 
     # Two grounds at once: the lower one is named.
-    for ground, want in ((6, 'refused 6 100'), (7, 'refused 7 1000'), (8, 'refused 8 10'),
+    for ground, want in ((6, 'refused 6 100'), (7, 'refused 7 1000'), (8, 'refused 8 11'),
                          (9, 'refused 9 1150'), (10, 'refused 10 0'), (11, 'refused 11 0'),
                          (12, 'refused 12 1300'), (13, 'refused 13 1031'), (14, 'refused 14 1085')):
         case('stack from ground %d' % ground, stack(ground), want)
     case('grounds 6 and 15', plan(2000, 1, outside(100, 3948)), 'refused 6 100')
     case('grounds 7 and 15', full(singles(2000)), 'refused 7 2000')
     case('grounds 8 and 15', full(pilots=[2000]), 'refused 8 3')
-    case('grounds 9 and 15', full([(3889, 3908)]), 'refused 9 3909')
+    case('grounds 9 and 15', full([(3890, 3909)]), 'refused 9 3910')
     case('grounds 12 and 15', full([(3888, 3907)] + singles(3915, 3925, 3935)), 'refused 12 3908')
     case('grounds 13 and 15', full(singles(*six, 1129)), 'refused 13 1010')
     case('grounds 14 and 15', full([(1100, 1104)]), 'refused 14 1085')

@@ -1,4 +1,4 @@
--- What each ground finds in one band, from the comparison that the code makes. Every law that opens `width` stands here. Assumes nothing.
+-- What each ground finds in one band, from the comparison that the code makes. Assumes nothing.
 use mathlib.Core.Path.{_≡_, ap}
 use mathlib.Core.Bool.{Bool}
 use mathlib.Core.Option.{none, some}
@@ -13,30 +13,30 @@ use Rattle.rules.specs.Bands.{width, excluded, excludedIn}
 use Rattle.bands.specs.Answers.{narrowIn, wideIn, muchIn}
 use Rattle.bands.proofs.Windows.{singles-count}
 
--- grounds 9 and 10
-module _ (w a b : ℕ) where
-  pub narrow-yes : 0 < w → b < a + w → narrowIn w a b ≡ some a
-  unfolding narrowIn width
-  narrow-yes pos h = ap (λ (t : Bool). when t a) (lt-ltb (b - a) w (omega arith))
+-- grounds 9 and 10: v is the width
+module _ (w a b v : ℕ) (e : v ≡ width a b) where
+  pub narrow-yes : v < w → narrowIn w a b ≡ some a
+  unfolding narrowIn
+  narrow-yes h = ap (λ (t : Bool). when t a) (lt-ltb (width a b) w (omega arith))
 
-  pub narrow-no : a + w ≤ b → narrowIn w a b ≡ none
-  unfolding narrowIn width
-  narrow-no h = ap (λ (t : Bool). when t a) (le-ltb (b - a) w (omega arith))
+  pub narrow-no : w ≤ v → narrowIn w a b ≡ none
+  unfolding narrowIn
+  narrow-no h = ap (λ (t : Bool). when t a) (le-ltb (width a b) w (omega arith))
 
-  pub wide-yes : a + w ≤ b → wideIn w a b ≡ some a
-  unfolding wideIn width
-  wide-yes h = ap (λ (t : Bool). when t a) (le-leb w (b - a) (omega arith))
+  pub wide-yes : w ≤ v → wideIn w a b ≡ some a
+  unfolding wideIn
+  wide-yes h = ap (λ (t : Bool). when t a) (le-leb w (width a b) (omega arith))
 
-  pub wide-no : 0 < w → b < a + w → wideIn w a b ≡ none
-  unfolding wideIn width
-  wide-no pos h = ap (λ (t : Bool). when t a) (lt-leb w (b - a) (omega arith))
+  pub wide-no : v < w → wideIn w a b ≡ none
+  unfolding wideIn
+  wide-no h = ap (λ (t : Bool). when t a) (lt-leb w (width a b) (omega arith))
 
--- ground 12
-module _ (p : Plan) (a b : ℕ) (x : List ℕ) (from to : ℕ) (s : Singles (excluded p) a b x from to) where
-  pub much-yes : b < a + 20 * (to - from) → muchIn p a b ≡ some a
-  unfolding muchIn width excludedIn
-  much-yes h = ap (λ (t : Bool). when t a) (lt-ltb (b - a) (20 * count (λ i. excluded p (a + i)) (suc b - a)) (omega (arith, singles-count (excluded p) a b x from to s, s .rise)))
+-- ground 12: v is the width
+module _ (p : Plan) (a b : ℕ) (x : List ℕ) (from to : ℕ) (s : Singles (excluded p) a b x from to) (v : ℕ) (e : v ≡ width a b) where
+  pub much-yes : v < 20 * (to - from) → muchIn p a b ≡ some a
+  unfolding muchIn excludedIn
+  much-yes h = ap (λ (t : Bool). when t a) (lt-ltb (width a b) (20 * count (λ i. excluded p (a + i)) (suc b - a)) (omega (arith, singles-count (excluded p) a b x from to s)))
 
-  pub much-no : a + 20 * (to - from) ≤ b → muchIn p a b ≡ none
-  unfolding muchIn width excludedIn
-  much-no h = ap (λ (t : Bool). when t a) (le-ltb (b - a) (20 * count (λ i. excluded p (a + i)) (suc b - a)) (omega (arith, singles-count (excluded p) a b x from to s, s .rise)))
+  pub much-no : 20 * (to - from) ≤ v → muchIn p a b ≡ none
+  unfolding muchIn excludedIn
+  much-no h = ap (λ (t : Bool). when t a) (le-ltb (width a b) (20 * count (λ i. excluded p (a + i)) (suc b - a)) (omega (arith, singles-count (excluded p) a b x from to s)))

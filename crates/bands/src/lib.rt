@@ -9,7 +9,7 @@ ghost use Rattle.counting.specs.Search.{first};
 ghost use Rattle.counting.specs.Runs.{Singles};
 ghost use Rattle.counting.specs.Answer.{placeOf};
 ghost use Rattle.rules.specs.Plan.{planOf};
-ghost use Rattle.rules.specs.Bands.{excluded};
+ghost use Rattle.rules.specs.Bands.{width, excluded};
 ghost use Rattle.rules.specs.Fits.{Fits, capacity, limit};
 ghost use Rattle.bands.specs.BandList.{EdgeRuns, BandList, Pushed, BandAt};
 ghost use Rattle.bands.specs.Answers.{narrowIn, wideIn, muchIn, windowIn, atBand};
@@ -81,38 +81,6 @@ pub fn bands(
     m
 }
 
-// The lowest band narrower than w (ground 9).
-pub fn first_narrow(a: &[u16; 256], b: &[u16; 256], m: usize, w: usize) -> Found
-    requires { ⌜ (m < 256) × (0 < w) × (w ≤ limit) ⌝ }
-    ensures { λ r. ⌜ placeOf r ≡ first (atBand (narrowIn w) (now (a .entry)) (now (b .entry))) m ⌝ }
-{
-    let mut j: usize = 0;
-    while j < m {
-        let low = wide(a[j]);
-        if wide(b[j]) < low + w {
-            return Found::At(low as u32);
-        }
-        j += 1;
-    }
-    Found::Nothing
-}
-
-// The lowest band of width w or more (ground 10).
-pub fn first_wide(a: &[u16; 256], b: &[u16; 256], m: usize, w: usize) -> Found
-    requires { ⌜ (m < 256) × (0 < w) × (w ≤ limit) ⌝ }
-    ensures { λ r. ⌜ placeOf r ≡ first (atBand (wideIn w) (now (a .entry)) (now (b .entry))) m ⌝ }
-{
-    let mut j: usize = 0;
-    while j < m {
-        let low = wide(a[j]);
-        if low + w <= wide(b[j]) {
-            return Found::At(low as u32);
-        }
-        j += 1;
-    }
-    Found::Nothing
-}
-
 // A band, and its part of the list x of the individually excluded: from `from` to `to` - 1.
 struct Band {
     low: usize,
@@ -143,6 +111,64 @@ fn band_at(
     }
 }
 
+// The width of a band from a to b, or the span from a to b: its subcarriers are counted.
+pub fn width_of(a: usize, b: usize) -> usize
+    requires { ⌜ (a ≤ b) × (b < capacity) ⌝ }
+    ensures { λ r. ⌜ r ≡ width a b ⌝ }
+{
+    b - a + 1
+}
+
+// The lowest band narrower than w (ground 9).
+pub fn first_narrow(
+    d: Device,
+    plan: &[u8],
+    a: &[u16; 256],
+    b: &[u16; 256],
+    c: &[u16; 256],
+    x: &[u16; 4096],
+    m: usize,
+    w: usize,
+) -> Found
+    requires { ⌜ Fits d × BandList d (planOf (now plan)) (now a) (now b) (now c) (now x) m × (m < 256) ⌝ }
+    ensures { λ r. ⌜ placeOf r ≡ first (atBand (narrowIn w) (now (a .entry)) (now (b .entry))) m ⌝ }
+{
+    let mut j: usize = 0;
+    while j < m {
+        let k = band_at(d, plan, a, b, c, x, m, j);
+        if width_of(k.low, k.high) < w {
+            return Found::At(k.low as u32);
+        }
+        j += 1;
+    }
+    Found::Nothing
+}
+
+// The lowest band of width w or more (ground 10).
+pub fn first_wide(
+    d: Device,
+    plan: &[u8],
+    a: &[u16; 256],
+    b: &[u16; 256],
+    c: &[u16; 256],
+    x: &[u16; 4096],
+    m: usize,
+    w: usize,
+) -> Found
+    requires { ⌜ Fits d × BandList d (planOf (now plan)) (now a) (now b) (now c) (now x) m × (m < 256) ⌝ }
+    ensures { λ r. ⌜ placeOf r ≡ first (atBand (wideIn w) (now (a .entry)) (now (b .entry))) m ⌝ }
+{
+    let mut j: usize = 0;
+    while j < m {
+        let k = band_at(d, plan, a, b, c, x, m, j);
+        if w <= width_of(k.low, k.high) {
+            return Found::At(k.low as u32);
+        }
+        j += 1;
+    }
+    Found::Nothing
+}
+
 // The lowest band with too many excluded for its width (ground 12).
 pub fn first_much(
     d: Device,
@@ -159,7 +185,7 @@ pub fn first_much(
     let mut j: usize = 0;
     while j < m {
         let k = band_at(d, plan, a, b, c, x, m, j);
-        if k.high < k.low + 20 * (k.to - k.from) {
+        if width_of(k.low, k.high) < 20 * (k.to - k.from) {
             return Found::At(k.low as u32);
         }
         j += 1;

@@ -15,6 +15,7 @@ use Rattle.rules.specs.declared.Finding.the-variants.{Fine}
 use Rattle.rules.specs.Plan.{Plan}
 use Rattle.rules.specs.Bands.{active, width, startsBand, nextBand, bandEnd, firstBand, excludedIn}
 use Rattle.rules.specs.Grounds.{_else_, ground?, outside, aroundPlc, pilotClash, narrowBand, noWideBand, muchExcluded, muchInBand, fullWindow, manyRanked, grounds6to15}
+use Rattle.rules.proofs.Widths.{width-reaches}
 use Rattle.plan.proofs.RecordLaws.{both-fine}
 use Rattle.facts.proofs.Accepted.{when-fine, ground-none}
 use Rattle.counting.proofs.Findings.{when-none, when-some, first-passed, first-found, highest-passes}
@@ -26,10 +27,10 @@ ten-thirteen six seven eight nine ten eleven twelve thirteen later e =
     let from-ten = both-fine ten _ (both-fine nine _ (both-fine eight _ (both-fine seven _ (both-fine six _ e .1) .1) .1) .1) in
     (from-ten .0, both-fine thirteen _ (both-fine twelve _ (both-fine eleven _ (from-ten .1) .1) .1) .0)
 
--- a band's lowest subcarrier, from which on bandWide steps lie in the band, and each long window inside them has few excluded
+-- a band's lowest subcarrier, from which on bandWide subcarriers lie in the band, and each long window inside them has few excluded
 pub record Wide (d : Device) (p : Plan) : Type 0 where
   pub from : ℕ
-  pub below : from + d .bandWide < d .subcarriers
+  pub below : from + d .bandWide ≤ d .subcarriers
   pub few : (x : ℕ) → x + d .longWindow ≤ d .bandWide → excludedIn p (from + x) (d .longWindow) ≤ d .longMax
 
 module _ (d : Device) (p : Plan) where
@@ -61,7 +62,7 @@ module _ (d : Device) (p : Plan) where
         go a l true t g = (a, l, t, g)
         go a l false t g = absurd (true≢false g)
 
-  module _ (wide : 0 < d .bandWide) (fine : grounds6to15 d p ≡ Fine) where
+  module _ (wide : 1 < d .bandWide) (fine : grounds6to15 d p ≡ Fine) where
     two-fine : (ground? 10 (when (noWideBand d p) 0) ≡ Fine) × (ground? 13 (fullWindow d p (d .longWindow) (d .longMax)) ≡ Fine)
     unfolding grounds6to15
     two-fine =
@@ -78,10 +79,10 @@ module _ (d : Device) (p : Plan) where
 
     -- ground 10: some band is wide
     pub wide-band : Wide d p
-    unfolding noWideBand width
+    unfolding noWideBand
     wide-band =
-        let r = band-found (λ a b. when (leb (d .bandWide) (b - a)) a) (when-fine 10 0 (noWideBand d p) (two-fine .0)) in
-        let long : d .bandWide ≤ bandEnd d p (r .0) - r .0 = leb-true _ _ (when-some _ (r .0) (r .3)) in
+        let r = band-found (λ a b. when (leb (d .bandWide) (width a b)) a) (when-fine 10 0 (noWideBand d p) (two-fine .0)) in
+        let long : r .0 + d .bandWide ≤ suc (bandEnd d p (r .0)) = width-reaches (r .0) (bandEnd d p (r .0)) (d .bandWide) wide (leb-true _ _ (when-some _ (r .0) (r .3))) in
         record {
           from = r .0;
           below = omega (arith, end-below (r .0) (omega arith));

@@ -1,17 +1,14 @@
 -- Ground 11 from the runs of excluded subcarriers: what lies between the first run and the last, which touch the ends. Assumes nothing.
 use mathlib.Core.Path.{_≡_, sym, ap, ap₂, _∙_}
-use mathlib.Core.Logic.{inl, inr}
 use mathlib.Core.List.{List}
 use mathlib.Core.Option.{Option, some, Option·getD}
 use Prim.Native.Nat.{ℕ, zero, suc, _+_, _-_, _*_, _≤_, _<_}
 use native.Mathlib.Numerals.{add-one}
 use native.Mathlib.Omega.{arith}
-use lib.Dec.{ltb, leb}
+use lib.Dec.{ltb}
 use lib.ListN.{getD}
-use borrow.Author.Tests.{lt-ltb, le-ltb, le-leb, lt-leb}
 use Rattle.counting.specs.Search.{count, lowest, highest}
 use Rattle.counting.specs.Runs.{before}
-use Rattle.counting.proofs.Bools.{Less, decide}
 use Rattle.counting.proofs.Laws.{count-add}
 use Rattle.counting.proofs.Searches.{count-all, count-no, highest-at, lowest-at}
 use Rattle.rules.specs.declared.Device.{Device}
@@ -51,15 +48,12 @@ module _ (d : Device) (p : Plan) (lo hi : List ℕ) (n : ℕ) (r : EdgeRuns d p 
     pub high : getD lo (n - 1) 0 < d .subcarriers
 
   pub edges : Edges
-  edges = go (decide 1 (n - 1))
+  edges = record { low = rise (n - 1) (omega (arith, r .two)) (omega (arith, r .two)); high = omega (arith, r .runs .each (n - 1) (omega (arith, r .two)) .some, r .runs .each (n - 1) (omega (arith, r .two)) .inside) }
     where
       rise : (i : ℕ) → 1 ≤ i → i < n → getD hi 0 0 < getD lo i 0
       rise zero a b = absurd (omega arith)
       rise (suc zero) a b = r .runs .each 1 b .after (omega arith)
       rise (suc (suc i)) a b = omega (arith, rise (suc i) (omega arith) (omega arith), r .runs .each (suc i) (omega arith) .some, r .runs .each (suc (suc i)) b .after (omega arith))
-
-      go : Less 1 (n - 1) → Edges
-      go _ = record { low = rise (n - 1) (omega (arith, r .two)) (omega (arith, r .two)); high = omega (arith, r .runs .each (n - 1) (omega (arith, r .two)) .some, r .runs .each (n - 1) (omega (arith, r .two)) .inside) }
 
   highest-is : (b : ℕ) → suc b ≡ getD lo (n - 1) 0 → highest (active d p) (d .subcarriers) ≡ some b
   highest-is b e =
@@ -73,20 +67,15 @@ module _ (d : Device) (p : Plan) (lo hi : List ℕ) (n : ℕ) (r : EdgeRuns d p 
       sym-suc : 2 ≤ n → n ≡ suc (n - 1)
       sym-suc l = omega arith
 
-  -- ground 11
-  pub much-is : (g first end : ℕ) → g + count (excluded p) (getD hi 0 0) ≡ count (excluded p) (getD lo (n - 1) 0) → first ≡ getD hi 0 0 → end ≡ getD lo (n - 1) 0
-      → leb end (first + 5 * g) ≡ muchExcluded d p
-  unfolding muchExcluded width excludedIn
-  much-is g first end s f e =
+  -- ground 11: v is the span
+  pub much-is : (g first end v : ℕ) → g + count (excluded p) (getD hi 0 0) ≡ count (excluded p) (getD lo (n - 1) 0) → first ≡ getD hi 0 0 → end ≡ getD lo (n - 1) 0
+      → v ≡ width first (end - 1) → ltb v (5 * g) ≡ muchExcluded d p
+  unfolding muchExcluded excludedIn
+  much-is g first end v s f e q =
       let w = edges in
       let b : ℕ = end - 1 in
       let back : suc b ≡ getD lo (n - 1) 0 = omega (arith, w .low) in
       let size : getD hi 0 0 + (suc b - getD hi 0 0) ≡ suc b = omega (arith, w .low) in
-      let many : count (λ i. excluded p (getD hi 0 0 + i)) (suc b - getD hi 0 0) ≡ g = omega (arith, count-add (excluded p) (getD hi 0 0) (suc b - getD hi 0 0), ap (count (excluded p)) (size ∙ back)) in
-      go (decide (first + 5 * g) end) many (omega (arith, w .low)) back
-      ∙ sym (ap₂ (λ (x y : Option ℕ). ltb (Option·getD y 0 - Option·getD x 0) (5 * count (λ i. excluded p (Option·getD x 0 + i)) (suc (Option·getD y 0) - Option·getD x 0))) lowest-is (highest-is b back))
-    where
-      go : Less (first + 5 * g) end → count (λ i. excluded p (getD hi 0 0 + i)) (suc (end - 1) - getD hi 0 0) ≡ g → getD hi 0 0 < end → suc (end - 1) ≡ getD lo (n - 1) 0
-          → leb end (first + 5 * g) ≡ ltb (end - 1 - getD hi 0 0) (5 * count (λ i. excluded p (getD hi 0 0 + i)) (suc (end - 1) - getD hi 0 0))
-      go (inl (h, _)) m l k = lt-leb end (first + 5 * g) h ∙ sym (le-ltb (end - 1 - getD hi 0 0) (5 * count (λ i. excluded p (getD hi 0 0 + i)) (suc (end - 1) - getD hi 0 0)) (omega arith))
-      go (inr (h, _)) m l k = le-leb end (first + 5 * g) h ∙ sym (lt-ltb (end - 1 - getD hi 0 0) (5 * count (λ i. excluded p (getD hi 0 0 + i)) (suc (end - 1) - getD hi 0 0)) (omega arith))
+      let many : g ≡ count (λ i. excluded p (getD hi 0 0 + i)) (suc b - getD hi 0 0) = omega (arith, count-add (excluded p) (getD hi 0 0) (suc b - getD hi 0 0), ap (count (excluded p)) (size ∙ back)) in
+      ap₂ (λ (x y : ℕ). ltb x (5 * y)) (q ∙ ap (λ (x : ℕ). width x b) f) many
+      ∙ sym (ap₂ (λ (x y : Option ℕ). ltb (width (Option·getD x 0) (Option·getD y 0)) (5 * count (λ i. excluded p (Option·getD x 0 + i)) (suc (Option·getD y 0) - Option·getD x 0))) lowest-is (highest-is b back))

@@ -67,7 +67,7 @@ fn much(d: Device, plan: &[u8], lo: &[u16], hi: &[u16], n: usize) -> bool
     let g = inner(d, plan, lo, hi, n);
     let first = wide(hi[0]);
     let end = wide(lo[n - 1]);
-    end <= first + 5 * g
+    bands::width_of(first, end - 1) < 5 * g
 }
 
 // Ground 15, and N_I.
@@ -141,6 +141,32 @@ fn grounds_11_to_15(
     grounds_13_to_15(d, plan, m, a, b, c, x, bands)
 }
 
+// Grounds 9 to 15, over the list of the bands.
+fn band_grounds(
+    d: Device,
+    plan: &[u8],
+    lo: &[u16],
+    hi: &[u16],
+    n: usize,
+    m: &[u16; 4096],
+    a: &[u16; 256],
+    b: &[u16; 256],
+    c: &[u16; 256],
+    x: &[u16; 4096],
+    bands: usize,
+) -> Verdict
+    requires { ⌜ Fits d × EdgeRuns d (planOf (now plan)) (now lo) (now hi) n × Marked d (planOf (now plan)) (now m) × BandList d (planOf (now plan)) (now a) (now b) (now c) (now x) bands × (bands < 256) ⌝ }
+    ensures { λ r. ⌜ r ≡ answer (grounds9to15 d (planOf (now (plan .entry)))) (rankedCount d (planOf (now (plan .entry)))) ⌝ }
+{
+    if let Found::At(k) = bands::first_narrow(d, plan, a, b, c, x, bands, d.bandMin) {
+        return Verdict::Refused(9, k);
+    }
+    if let Found::Nothing = bands::first_wide(d, plan, a, b, c, x, bands, d.bandWide) {
+        return Verdict::Refused(10, 0);
+    }
+    grounds_11_to_15(d, plan, lo, hi, n, m, a, b, c, x, bands)
+}
+
 // Grounds 9 to 15, and N_I where none holds.
 pub fn grounds_9_to_15(
     d: Device,
@@ -158,11 +184,5 @@ pub fn grounds_9_to_15(
     let mut c = [0u16; 256];
     let mut x = [0u16; 4096];
     let bands = bands::bands(d, plan, lo, hi, n, &mut a, &mut b, &mut c, &mut x);
-    if let Found::At(k) = bands::first_narrow(&a, &b, bands, d.bandMin) {
-        return Verdict::Refused(9, k);
-    }
-    if let Found::Nothing = bands::first_wide(&a, &b, bands, d.bandWide) {
-        return Verdict::Refused(10, 0);
-    }
-    grounds_11_to_15(d, plan, lo, hi, n, m, &a, &b, &c, &x, bands)
+    band_grounds(d, plan, lo, hi, n, m, &a, &b, &c, &x, bands)
 }

@@ -10,11 +10,19 @@ use Rattle.rules.specs.Device.{khz50}
 use Rattle.rules.specs.Grounds.{verdict}
 use Rattle.rules.specs.Frame.{cells, cellRank, carrier, spot, sentPhase, held}
 use Rattle.rules.specs.Computes.{computes}
-use Rattle.rules.specs.Cases.{planWith, planA, planTo1239, planTo854, planTo853, A, scatteredA, frameA, Starred}
+use Rattle.rules.specs.Cases.{planWith, planA, planTo1239, planTo1238, planAtLimits, planTo854, planTo853, A, scatteredA, frameA, Starred}
 
 verdict-A : verdict khz50 planA ≡ Accepted 425
 unfolding computes planWith planA
 verdict-A = refl
+
+verdict-1239 : verdict khz50 planTo1239 ≡ Accepted 424
+unfolding computes planWith planTo1239
+verdict-1239 = refl
+
+verdict-limits : verdict khz50 planAtLimits ≡ Accepted 460
+unfolding computes planWith planAtLimits
+verdict-limits = refl
 
 verdict-854 : verdict khz50 planTo854 ≡ Refused 14 835
 unfolding computes planWith planTo854
@@ -54,5 +62,5 @@ unfolding held
 held-1 = ap (frameA .pattern (sentPhase frameA 48 1)) cell-1 ∙ on-the-line
 
 pub starred : Starred
-unfolding computes planWith planA planTo1239 A scatteredA frameA
-starred = (verdict-A, refl, refl, refl, refl, refl, ranks, cell-1, held-1, refl, refl, refl, verdict-854, verdict-853)
+unfolding computes planWith planA planTo1238 A scatteredA frameA
+starred = (verdict-A, refl, refl, refl, refl, refl, ranks, cell-1, held-1, refl, refl, verdict-1239, refl, verdict-limits, verdict-854, verdict-853)

@@ -1,4 +1,4 @@
--- The starred cases of document 01, "Plan A and its neighbours", as one table. Proved in proofs/Starred.antt. Assumes nothing.
+-- The starred cases of document 01, "Plan A and its neighbours", as one table, and the plans at the limits that 02, Req 02 moved. Proved in proofs/Starred.antt. Assumes nothing.
 use Prim.Native.Nat.{ℕ}
 use mathlib.Core.Path.{_≡_}
 use mathlib.Core.Bool.{true}
@@ -22,6 +22,18 @@ planA = planWith (2 ∷ 0 ∷ 0 ∷ 0 ∷ 0x04 ∷ 0xD9 ∷ 0x0F ∷ 0xFF ∷ []
 -- active 800 to 1239
 unfoldable pub planTo1239 : List ℕ
 planTo1239 = planWith (2 ∷ 0 ∷ 0 ∷ 0 ∷ 0x04 ∷ 0xD8 ∷ 0x0F ∷ 0xFF ∷ [])
+
+-- active 800 to 1238
+unfoldable pub planTo1238 : List ℕ
+planTo1238 = planWith (2 ∷ 0 ∷ 0 ∷ 0 ∷ 0x04 ∷ 0xD7 ∷ 0x0F ∷ 0xFF ∷ [])
+
+-- active 800 to 1239 but for 810 and 811, and 1355 to 1394 but for 1360 and 1361: bands of 440 and of 40 subcarriers, 119 excluded in a span of 595, two in the band of 40
+unfoldable pub planAtLimits : List ℕ
+planAtLimits = planWith (
+    2 ∷ 0 ∷ 0 ∷ 3 ∷ 0x05 ∷ 0x73 ∷ 0x0F ∷ 0xFF
+    ∷ 2 ∷ 0 ∷ 0 ∷ 4 ∷ 0x04 ∷ 0xD8 ∷ 0x05 ∷ 0x4A
+    ∷ 2 ∷ 0 ∷ 0 ∷ 5 ∷ 0x03 ∷ 0x2A ∷ 0x03 ∷ 0x2B
+    ∷ 2 ∷ 0 ∷ 0 ∷ 0 ∷ 0x05 ∷ 0x50 ∷ 0x05 ∷ 0x51 ∷ [])
 
 -- Plan A, also excluding 850 to 854
 unfoldable pub planTo854 : List ℕ
@@ -52,6 +64,8 @@ Starred =
     × (map (cellRank frameA) (0 ∷ 128 ∷ 256 ∷ 384 ∷ 64 ∷ 32 ∷ 1 ∷ []) ≡ 0 ∷ 1 ∷ 2 ∷ 3 ∷ 4 ∷ 7 ∷ 213 ∷ [])
     × (spot frameA 1 ≡ 1029) × (held frameA 48 1 ≡ true) × (sentPhase frameA 48 1 ≡ 49)
     × (verdict khz50 [] ≡ Refused 1 0)
-    × (verdict khz50 planTo1239 ≡ Refused 10 0)
+    × (verdict khz50 planTo1239 ≡ Accepted 424)
+    × (verdict khz50 planTo1238 ≡ Refused 10 0)
+    × (verdict khz50 planAtLimits ≡ Accepted 460)
     × (verdict khz50 planTo854 ≡ Refused 14 835)
     × (verdict khz50 planTo853 ≡ Accepted 421)

@@ -21,24 +21,24 @@ loop-holds c = search-start
 band-at-requires : tie.Need-band-at-requires Inv-loop μ-loop
 band-at-requires c κs = search needs
 
+width-of-requires : tie.Need-width-of-requires Inv-loop μ-loop
+width-of-requires c κs = let k = c .band-at .ensures in (k .singles .rise, k .below)
+
 sub-if1 : tie.Need-sub-if1 Inv-loop μ-loop
-sub-if1 c = c .before .band-at .ensures .singles .some
+sub-if1 c = c .before .before .band-at .ensures .singles .some
 
 mul-if1 : tie.Need-mul-if1 Inv-loop μ-loop
-mul-if1 c = omega (arith, c .before .band-at .ensures .few)
-
-add-if1 : tie.Need-add-if1 Inv-loop μ-loop
-add-if1 c = search needs
+mul-if1 c = omega (arith, c .before .before .band-at .ensures .few)
 
 cast-t14 : tie.Need-cast-t14 Inv-loop μ-loop
 cast-t14 c = search needs
 
 returns : tie.Need-returns Inv-loop μ-loop
 returns c =
-    let t = c .before .before .before .before .before in
-    let l = t .before .before in
+    let v = c .before .before .before in
+    let t = v .before in
     let k = t .band-at .ensures in
-    search-found (l .loop .inv) (t .before .loop-test .taken) (k .lowest) (k .highest) (much-yes _ _ _ _ _ _ (k .singles) (c .before .if1 .taken))
+    search-found (t .before .before .loop .inv) (t .before .loop-test .taken) (k .lowest) (k .highest) (much-yes _ _ _ _ _ _ (k .singles) _ (v .width-of .ensures) (c .before .if1 .taken))
 
 add-j : tie.Need-add-j Inv-loop μ-loop
 add-j c = search needs
@@ -48,10 +48,10 @@ loop-less c = search needs
 
 loop-again : tie.Need-loop-again Inv-loop μ-loop
 loop-again c =
-    let t = c .before .before .before .before in
-    let l = t .before .before in
+    let v = c .before .before in
+    let t = v .before in
     let k = t .band-at .ensures in
-    search-passed (l .loop .inv) (t .before .loop-test .taken) (k .lowest) (k .highest) (much-no _ _ _ _ _ _ (k .singles) (c .if1 .left))
+    search-passed (t .before .before .loop .inv) (t .before .loop-test .taken) (k .lowest) (k .highest) (much-no _ _ _ _ _ _ (k .singles) _ (v .width-of .ensures) (c .if1 .left))
 
 returns-2 : tie.Need-returns-2 Inv-loop μ-loop
 returns-2 c = search-ended (c .before .loop .inv) (c .loop-test .left)
@@ -64,9 +64,9 @@ first-much-spec =
     μ-loop
     loop-holds
     band-at-requires
+    width-of-requires
     sub-if1
     mul-if1
-    add-if1
     cast-t14
     returns
     add-j

@@ -25,7 +25,6 @@ returns c =
     let d : Device = g .args .d in
     let p : Plan = planOf (g .args .plan .now) in
     let n : ℕ = rankedCount d p in
-    let is = much-in-is d p _ _ _ _ _ (g .pre .3) in
     stop (when (muchExcluded d p) 0) 11 0 n (ground? 12 (muchInBand d p) else grounds13to15 d p) (ap (λ (b : Bool). when b 0) (sym (c .before .much .ensures) ∙ c .if1 .taken))
 
 first-much-requires : tie.Need-first-much-requires

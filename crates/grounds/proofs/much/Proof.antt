@@ -1,6 +1,8 @@
 -- `grounds::much` meets its contract. Assumes nothing.
 use borrow.Author.Needs.{needs}
-use Rattle.grounds.proofs.Span.{much-is}
+use native.Mathlib.Omega.{arith}
+use Rattle.rules.specs.Plan.{planOf}
+use Rattle.grounds.proofs.Span.{Edges, edges, much-is}
 use Rattle.grounds.proofs.much.Statement.{statement}
 use Rattle.grounds.proofs.much.Tie as tie
 
@@ -25,16 +27,26 @@ shared-slice-read-wide-2 c = search needs
 wide-requires-2 : tie.Need-wide-requires-2
 wide-requires-2 c κs = search needs
 
+-- the lowest active subcarrier lies below the last run
+apart : (c : tie.After-wide2) → let g = c .before .before .before .before .before .before .before .before in Edges (g .args .d) (planOf (g .args .plan .now)) (g .args .lo .now) (g .args .hi .now) (g .args .n) (g .pre .1)
+apart c = edges _ _ _ _ _ (c .before .before .before .before .before .before .before .before .pre .1)
+
+sub-width-of : tie.Need-sub-width-of
+sub-width-of c = omega (arith, apart c .low, c .wide2 .ensures .0)
+
+width-of-requires : tie.Need-width-of-requires
+width-of-requires c κs =
+    let w = apart c in
+    let fit = c .before .before .before .before .before .before .before .before .pre .0 in
+    (omega (arith, w .low, c .wide2 .ensures .0, c .before .before .wide .ensures .0), omega (arith, w .high, fit .few, c .wide2 .ensures .0))
+
 mul-result : tie.Need-mul-result
 mul-result c = search needs
 
-add-result : tie.Need-add-result
-add-result c = search needs
-
 returns : tie.Need-returns
 returns c =
-    let k = c .before .before .before .before .inner .ensures in
-    much-is _ _ _ _ _ (c .before .before .before .before .before .before .before .before .pre .1) (c .before .before .before .before .inner .result) _ _ (k .0) (c .before .before .wide .ensures .0) (c .wide2 .ensures .0)
+    let k = c .before .before .before .before .before .inner in
+    much-is _ _ _ _ _ (c .before .before .before .before .before .before .before .before .before .pre .1) (k .result) _ _ _ (k .ensures .0) (c .before .before .before .wide .ensures .0) (c .before .wide2 .ensures .0) (c .width-of .ensures)
 
 pub much-spec : {M : Type 1} → statement M
 much-spec =
@@ -47,6 +59,7 @@ much-spec =
     mul-wide
     shared-slice-read-wide-2
     wide-requires-2
+    sub-width-of
+    width-of-requires
     mul-result
-    add-result
     returns)
