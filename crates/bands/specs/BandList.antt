@@ -9,7 +9,6 @@ use Rattle.counting.specs.Runs.{Runs, before, Singles}
 use Rattle.rules.specs.declared.Device.{Device}
 use Rattle.rules.specs.Plan.{Plan}
 use Rattle.rules.specs.Bands.{excluded, firstBand}
-use Rattle.rules.specs.Fits.{capacity}
 
 -- the runs of what a plan excludes, two or more: the first begins at 0, the last ends at the last subcarrier
 pub record EdgeRuns (d : Device) (p : Plan) (lo hi : List ℕ) (n : ℕ) : Type 0 where
@@ -31,11 +30,3 @@ pub record BandList (d : Device) (p : Plan) (a b c x : List ℕ) (m : ℕ) : Typ
 pub record Pushed (x y : List ℕ) (at e u : ℕ) : Type 0 where
   pub kept : (q : ℕ) → q < at → getD y q 0 ≡ getD x q 0
   pub new : (q : ℕ) → at ≤ q → q + e < at + u → getD y q 0 + at ≡ e + q
-
--- band j of the lists is low to high, and x from `from` to `to` - 1 are its individually excluded subcarriers
-pub record BandAt (p : Plan) (a b x : List ℕ) (j low high from to : ℕ) : Type 0 where
-  pub lowest : low ≡ getD a j 0
-  pub highest : high ≡ getD b j 0
-  pub singles : Singles (excluded p) low high x from to
-  pub below : high < capacity
-  pub few : to ≤ capacity

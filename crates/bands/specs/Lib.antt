@@ -1,2 +1,1 @@
 pub mod BandList
-pub mod Answers

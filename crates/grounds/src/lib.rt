@@ -67,7 +67,7 @@ fn much(d: Device, plan: &[u8], lo: &[u16], hi: &[u16], n: usize) -> bool
     let g = inner(d, plan, lo, hi, n);
     let first = wide(hi[0]);
     let end = wide(lo[n - 1]);
-    bands::width_of(first, end - 1) < 5 * g
+    limits::width_of(first, end - 1) < 5 * g
 }
 
 // Ground 15, and N_I.
@@ -96,10 +96,20 @@ fn grounds_13_to_15(
     requires { ⌜ Fits d × Marked d (planOf (now plan)) (now m) × BandList d (planOf (now plan)) (now a) (now b) (now c) (now x) bands × (bands < 256) ⌝ }
     ensures { λ r. ⌜ r ≡ answer (grounds13to15 d (planOf (now (plan .entry)))) (rankedCount d (planOf (now (plan .entry)))) ⌝ }
 {
-    if let Found::At(k) = bands::first_window(d, plan, a, b, c, x, bands, d.longWindow, d.longMax) {
+    if let Found::At(k) = limits::first_window(
+        d,
+        plan,
+        a,
+        b,
+        c,
+        x,
+        bands,
+        d.longWindow,
+        d.longMax,
+    ) {
         return Verdict::Refused(13, k);
     }
-    if let Found::At(k) = bands::first_window(
+    if let Found::At(k) = limits::first_window(
         d,
         plan,
         a,
@@ -135,7 +145,7 @@ fn grounds_11_to_15(
     if much(d, plan, lo, hi, n) {
         return Verdict::Refused(11, 0);
     }
-    if let Found::At(k) = bands::first_much(d, plan, a, b, c, x, bands) {
+    if let Found::At(k) = limits::first_much(d, plan, a, b, c, x, bands) {
         return Verdict::Refused(12, k);
     }
     grounds_13_to_15(d, plan, m, a, b, c, x, bands)
@@ -158,10 +168,10 @@ fn band_grounds(
     requires { ⌜ Fits d × EdgeRuns d (planOf (now plan)) (now lo) (now hi) n × Marked d (planOf (now plan)) (now m) × BandList d (planOf (now plan)) (now a) (now b) (now c) (now x) bands × (bands < 256) ⌝ }
     ensures { λ r. ⌜ r ≡ answer (grounds9to15 d (planOf (now (plan .entry)))) (rankedCount d (planOf (now (plan .entry)))) ⌝ }
 {
-    if let Found::At(k) = bands::first_narrow(d, plan, a, b, c, x, bands, d.bandMin) {
+    if let Found::At(k) = limits::first_narrow(d, plan, a, b, c, x, bands, d.bandMin) {
         return Verdict::Refused(9, k);
     }
-    if let Found::Nothing = bands::first_wide(d, plan, a, b, c, x, bands, d.bandWide) {
+    if let Found::Nothing = limits::first_wide(d, plan, a, b, c, x, bands, d.bandWide) {
         return Verdict::Refused(10, 0);
     }
     grounds_11_to_15(d, plan, lo, hi, n, m, a, b, c, x, bands)

@@ -11,7 +11,7 @@ use Rattle.rules.specs.Roles.{rankedCount}
 use Rattle.rules.specs.Grounds.{narrowBand, noWideBand, ground?, _else_}
 use Rattle.counting.specs.Answer.{placeOf}
 use Rattle.grounds.specs.Order.{grounds11to15, grounds9to15}
-use Rattle.bands.proofs.Grounds.{narrow-is, wide-is}
+use Rattle.limits.proofs.Grounds.{narrow-is, wide-is}
 use Rattle.grounds.proofs.Laws.{stop, pass}
 use Rattle.grounds.proofs.band_grounds.Statement.{statement}
 use Rattle.grounds.proofs.band_grounds.Tie as tie

@@ -10,7 +10,7 @@ use Rattle.rules.specs.Roles.{rankedCount}
 use Rattle.rules.specs.Grounds.{muchExcluded, muchInBand, ground?, _else_}
 use Rattle.counting.specs.Answer.{placeOf}
 use Rattle.grounds.specs.Order.{grounds13to15, grounds11to15}
-use Rattle.bands.proofs.Grounds.{much-in-is}
+use Rattle.limits.proofs.Grounds.{much-in-is}
 use Rattle.grounds.proofs.Laws.{stop, pass}
 use Rattle.grounds.proofs.grounds_11_to_15.Statement.{statement}
 use Rattle.grounds.proofs.grounds_11_to_15.Tie as tie

@@ -11,8 +11,9 @@ use Rattle.counting.proofs.Searches.{first-zero, search-on, search-here}
 use Rattle.rules.specs.declared.Device.{Device}
 use Rattle.rules.specs.Plan.{Plan}
 use Rattle.rules.specs.Fits.{Fits}
-use Rattle.bands.specs.BandList.{BandList, BandAt}
-use Rattle.bands.specs.Answers.{atBand}
+use Rattle.bands.specs.BandList.{BandList}
+use Rattle.limits.specs.BandAt.{BandAt}
+use Rattle.limits.specs.Answers.{atBand}
 
 pub band-read : (d : Device) (p : Plan) (a b c x : List ℕ) (m j low high from to : ℕ) → Fits d → BandList d p a b c x m → j < m
     → low ≡ getD a j 0 → high ≡ getD b j 0 → from ≡ getD c j 0 → to ≡ getD c (j + 1) 0 → BandAt p a b x j low high from to

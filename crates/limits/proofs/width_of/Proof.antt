@@ -1,9 +1,9 @@
--- `bands::width_of` meets its contract: the one place of this crate that opens `width`. Assumes nothing.
+-- `limits::width_of` meets its contract: the one place of the code's proofs that opens `width`. Assumes nothing.
 use borrow.Author.Needs.{needs}
 use mathlib.Core.Path.{refl}
 use Rattle.rules.specs.Bands.{width}
-use Rattle.bands.proofs.width_of.Statement.{statement}
-use Rattle.bands.proofs.width_of.Tie as tie
+use Rattle.limits.proofs.width_of.Statement.{statement}
+use Rattle.limits.proofs.width_of.Tie as tie
 
 sub-result : tie.Need-sub-result
 sub-result c = search needs

@@ -10,8 +10,8 @@ use Rattle.counting.specs.Search.{when, count}
 use Rattle.counting.specs.Runs.{Singles}
 use Rattle.rules.specs.Plan.{Plan}
 use Rattle.rules.specs.Bands.{width, excluded, excludedIn}
-use Rattle.bands.specs.Answers.{narrowIn, wideIn, muchIn}
-use Rattle.bands.proofs.Windows.{singles-count}
+use Rattle.limits.specs.Answers.{narrowIn, wideIn, muchIn}
+use Rattle.limits.proofs.Windows.{singles-count}
 
 -- grounds 9 and 10: v is the width
 module _ (w a b v : ℕ) (e : v ≡ width a b) where

@@ -1,4 +1,4 @@
--- `bands::window_in` meets its contract. The loop keeps that no single before single q is near enough to the one `most` after it. Assumes nothing.
+-- `limits::window_in` meets its contract. The loop keeps that no single before single q is near enough to the one `most` after it. Assumes nothing.
 use borrow.Author.Needs.{needs}
 use mathlib.Core.Path.{sym, ap, _∙_}
 use Prim.Native.Nat.{ℕ, suc, max, _+_, _-_, _≤_, _<_}
@@ -7,10 +7,10 @@ use lib.ListN.{getD}
 use borrow.Author.Count.{below-more}
 use Rattle.rules.specs.Plan.{planOf}
 use Rattle.rules.specs.Bands.{excluded, excludedIn}
-use Rattle.bands.specs.Answers.{windowIn}
-use Rattle.bands.proofs.Windows.{window-short, window-some, window-none}
-use Rattle.bands.proofs.window_in.Statement.{statement}
-use Rattle.bands.proofs.window_in.Tie as tie
+use Rattle.limits.specs.Answers.{windowIn}
+use Rattle.limits.proofs.Windows.{window-short, window-some, window-none}
+use Rattle.limits.proofs.window_in.Statement.{statement}
+use Rattle.limits.proofs.window_in.Tie as tie
 
 abbrev Inv-loop : tie.InvT-loop
 Inv-loop plan x from to a b size most q₀ q = (from ≤ q) × (q ≤ to) × ((j : ℕ) → j < q → from ≤ j → j + most < to → getD x (j + most) 0 < getD x j 0 + size → ⊥)

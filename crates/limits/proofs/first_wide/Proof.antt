@@ -1,11 +1,11 @@
--- `bands::first_wide` meets its contract. The loop keeps that no band before band j has width w or more. Assumes nothing.
+-- `limits::first_wide` meets its contract. The loop keeps that no band before band j has width w or more. Assumes nothing.
 use borrow.Author.Needs.{needs}
 use Prim.Native.Nat.{_-_}
-use Rattle.bands.specs.Answers.{wideIn}
-use Rattle.bands.proofs.Tests.{wide-yes, wide-no}
-use Rattle.bands.proofs.Searching.{Searched, search-start, search-found, search-passed, search-ended}
-use Rattle.bands.proofs.first_wide.Statement.{statement}
-use Rattle.bands.proofs.first_wide.Tie as tie
+use Rattle.limits.specs.Answers.{wideIn}
+use Rattle.limits.proofs.Tests.{wide-yes, wide-no}
+use Rattle.limits.proofs.Searching.{Searched, search-start, search-found, search-passed, search-ended}
+use Rattle.limits.proofs.first_wide.Statement.{statement}
+use Rattle.limits.proofs.first_wide.Tie as tie
 
 abbrev Inv-loop : tie.InvT-loop
 Inv-loop d plan a b c x m w j₀ j = Searched (wideIn w) a b m j

@@ -6,8 +6,8 @@ use Rattle.counting.specs.Search.{first, isNone}
 use Rattle.rules.specs.declared.Device.{Device}
 use Rattle.rules.specs.Plan.{Plan}
 use Rattle.rules.specs.Grounds.{narrowBand, noWideBand, muchInBand, fullWindow}
 use Rattle.bands.specs.BandList.{BandList}
-use Rattle.bands.specs.Answers.{narrowIn, wideIn, muchIn, windowIn, atBand}
+use Rattle.limits.specs.Answers.{narrowIn, wideIn, muchIn, windowIn, atBand}
 
 module _ (d : Device) (p : Plan) (a b c x : List ℕ) (m : ℕ) (l : BandList d p a b c x m) where
   pub narrow-is : narrowBand d p ≡ first (atBand (narrowIn (d .bandMin)) a b) m

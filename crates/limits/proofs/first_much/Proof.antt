@@ -1,13 +1,13 @@
--- `bands::first_much` meets its contract. The loop keeps that no band before band j has too many excluded. Assumes nothing.
+-- `limits::first_much` meets its contract. The loop keeps that no band before band j has too many excluded. Assumes nothing.
 use borrow.Author.Needs.{needs}
 use Prim.Native.Nat.{_-_}
 use native.Mathlib.Omega.{arith}
 use Rattle.rules.specs.Plan.{planOf}
-use Rattle.bands.specs.Answers.{muchIn}
-use Rattle.bands.proofs.Tests.{much-yes, much-no}
-use Rattle.bands.proofs.Searching.{Searched, search-start, search-found, search-passed, search-ended}
-use Rattle.bands.proofs.first_much.Statement.{statement}
-use Rattle.bands.proofs.first_much.Tie as tie
+use Rattle.limits.specs.Answers.{muchIn}
+use Rattle.limits.proofs.Tests.{much-yes, much-no}
+use Rattle.limits.proofs.Searching.{Searched, search-start, search-found, search-passed, search-ended}
+use Rattle.limits.proofs.first_much.Statement.{statement}
+use Rattle.limits.proofs.first_much.Tie as tie
 
 abbrev Inv-loop : tie.InvT-loop
 Inv-loop d plan a b c x m j₀ j = Searched (muchIn (planOf plan)) a b m j

@@ -1,11 +1,11 @@
--- `bands::first_narrow` meets its contract. The loop keeps that no band before band j is narrower than w. Assumes nothing.
+-- `limits::first_narrow` meets its contract. The loop keeps that no band before band j is narrower than w. Assumes nothing.
 use borrow.Author.Needs.{needs}
 use Prim.Native.Nat.{_-_}
-use Rattle.bands.specs.Answers.{narrowIn}
-use Rattle.bands.proofs.Tests.{narrow-yes, narrow-no}
-use Rattle.bands.proofs.Searching.{Searched, search-start, search-found, search-passed, search-ended}
-use Rattle.bands.proofs.first_narrow.Statement.{statement}
-use Rattle.bands.proofs.first_narrow.Tie as tie
+use Rattle.limits.specs.Answers.{narrowIn}
+use Rattle.limits.proofs.Tests.{narrow-yes, narrow-no}
+use Rattle.limits.proofs.Searching.{Searched, search-start, search-found, search-passed, search-ended}
+use Rattle.limits.proofs.first_narrow.Statement.{statement}
+use Rattle.limits.proofs.first_narrow.Tie as tie
 
 abbrev Inv-loop : tie.InvT-loop
 Inv-loop d plan a b c x m w j₀ j = Searched (narrowIn w) a b m j

@@ -1,8 +1,8 @@
--- `bands::band_at` meets its contract. Assumes nothing.
+-- `limits::band_at` meets its contract. Assumes nothing.
 use borrow.Author.Needs.{needs}
-use Rattle.bands.proofs.Searching.{band-read}
-use Rattle.bands.proofs.band_at.Statement.{statement}
-use Rattle.bands.proofs.band_at.Tie as tie
+use Rattle.limits.proofs.Searching.{band-read}
+use Rattle.limits.proofs.band_at.Statement.{statement}
+use Rattle.limits.proofs.band_at.Tie as tie
 
 mul-wide : tie.Need-mul-wide
 mul-wide c = search needs

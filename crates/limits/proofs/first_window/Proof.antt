@@ -1,13 +1,13 @@
--- `bands::first_window` meets its contract. The loop keeps that no band before band j has a full window. Assumes nothing.
+-- `limits::first_window` meets its contract. The loop keeps that no band before band j has a full window. Assumes nothing.
 use borrow.Author.Needs.{needs}
 use mathlib.Core.Path.{sym, ap, _∙_}
 use Prim.Native.Nat.{_-_}
 use Rattle.counting.specs.Answer.{placeOf}
 use Rattle.rules.specs.Plan.{planOf}
-use Rattle.bands.specs.Answers.{windowIn}
-use Rattle.bands.proofs.Searching.{Searched, search-start, search-found, search-passed, search-ended}
-use Rattle.bands.proofs.first_window.Statement.{statement}
-use Rattle.bands.proofs.first_window.Tie as tie
+use Rattle.limits.specs.Answers.{windowIn}
+use Rattle.limits.proofs.Searching.{Searched, search-start, search-found, search-passed, search-ended}
+use Rattle.limits.proofs.first_window.Statement.{statement}
+use Rattle.limits.proofs.first_window.Tie as tie
 
 abbrev Inv-loop : tie.InvT-loop
 Inv-loop d plan a b c x m size most j₀ j = Searched (windowIn (planOf plan) size most) a b m j

@@ -1,0 +1,4 @@
+pub mod Windows
+pub mod Tests
+pub mod Searching
+pub mod Grounds

@@ -1,0 +1,2 @@
+pub mod BandAt
+pub mod Answers
