@@ -21,8 +21,8 @@ use Rattle.rules.specs.Plan.{Plan}
 use Rattle.rules.specs.Fits.{Fits}
 use Rattle.rules.specs.Frame.{Frame, frameOf}
 use Rattle.rules.specs.Receive.{wrongCell}
+use Rattle.roles.proofs.Fitting.{cellFits, fits-role}
 use Rattle.marks.specs.Marked.{Marked}
-use Rattle.marks.proofs.Fitting.{cellFits, fits-role}
 use Rattle.delay.proofs.Stride.{Upto, Gap}
 use Rattle.cells.specs.Tied.{Tied, Turning}
 use Rattle.cells.proofs.Plans.{tied-of, turning-of}

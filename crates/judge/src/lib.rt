@@ -92,8 +92,8 @@ fn role_in(d: Device, plan: &[u8], m: &[u16; 4096], k: u32, phase: u32) -> RoleA
         return RoleAnswer::Refused(16, 0);
     }
     let l = plan::number_at(plan, 4);
-    let pilots = marks::pilots_of(d, l);
-    RoleAnswer::Is(marks::role_test(d, plan, m[at], pilots, l, at, j))
+    let pilots = roles::pilots_of(d, l);
+    RoleAnswer::Is(roles::role_test(d, plan, m[at], pilots, l, at, j))
 }
 
 // The role of a subcarrier at a phase.

@@ -17,11 +17,11 @@ use Rattle.rules.specs.Plan.{Entry, Plan}
 use Rattle.rules.specs.Bands.{any, excluded}
 use Rattle.rules.specs.Roles.{oneOf, predefined, names, inPlc, continuous, mark, continuousMark, firstMark}
 use Rattle.rules.specs.Grounds.{pilotClash}
+use Rattle.roles.proofs.Testing.{mark-is}
 use Rattle.marks.specs.Marked.{Cells, Marked}
 use Rattle.marks.specs.Stages.{withPilots, Placed}
 use Rattle.marks.proofs.Stretches.{cells-same}
 use Rattle.marks.proofs.Placing.{Apart, pilot-more}
-use Rattle.marks.proofs.Testing.{mark-is}
 
 -- the pilots so far: the predefined ones, and those that the entries name
 abbrev pub soFar : Device → Plan → List Entry → ℕ → Bool

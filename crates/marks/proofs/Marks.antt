@@ -16,8 +16,8 @@ use Rattle.rules.specs.Bands.{excluded, active}
 use Rattle.rules.specs.Roles.{inPlc, continuous, ranked, mark, marks, firstMark}
 use Rattle.rules.specs.Grounds.{_else_, ground?, outside, aroundPlc, pilotClash}
 use Rattle.rules.specs.Fits.{capacity}
+use Rattle.roles.proofs.Testing.{mark-is}
 use Rattle.marks.specs.Marked.{Marked, grounds6to8}
-use Rattle.marks.proofs.Testing.{mark-is}
 
 -- the whole array is the list of marks, where the device has as many subcarriers as the array cells
 pub marks-are : (d : Device) (p : Plan) (m : List ℕ) → d .subcarriers ≡ capacity → Marked d p m → m ≡ marks d p

@@ -1,34 +1,24 @@
 -- The PLC and the continuous pilots marked: none of them stands on an excluded subcarrier, and no pilot in the PLC, so the last mark stored is that of the first role. Assumes nothing.
-use Prim.Native.Nat.{ℕ, _+_, _≤_, _<_}
+use Prim.Native.Nat.{ℕ, _+_, _<_}
 use mathlib.Core.Path.{_≡_, refl, sym, ap, ap₂, _∙_, subst}
-use mathlib.Core.Logic.{_⊎_, inl, inr}
-use mathlib.Core.Bool.{Bool, true, false, _&&_, _||_}
+use mathlib.Core.Bool.{Bool, false, _||_}
 use mathlib.Core.List.{List}
 use native.Mathlib.Omega.{arith}
-use lib.Dec.{ltb, leb, eqb}
+use lib.Dec.{eqb}
 use lib.ListN.{getD, set}
-use borrow.Author.Tests.{lt-ltb, le-ltb, le-leb, lt-leb, eq-eqb, ne-eqb}
-use Rattle.counting.proofs.Bools.{and-false, or-false, or-true}
+use borrow.Author.Tests.{eq-eqb, ne-eqb}
+use Rattle.counting.proofs.Bools.{or-false, or-true}
 use Rattle.rules.specs.declared.Device.{Device}
 use Rattle.rules.specs.Plan.{Plan}
 use Rattle.rules.specs.Bands.{excluded}
 use Rattle.rules.specs.Roles.{oneOf, predefined, inPlc, continuousMark, plcMark, firstMark}
 use Rattle.rules.specs.Fits.{Fits, capacity}
+use Rattle.roles.proofs.Eight.{beside, eight-long, Place, place}
+use Rattle.roles.proofs.Testing.{in-plc, off-plc}
 use Rattle.marks.specs.Marked.{Cells}
 use Rattle.marks.specs.Stages.{between, Stamped, AllBelow, painted, withPilots, Free}
 use Rattle.marks.proofs.Stretches.{cells-spread, cells-stamp, cells-set}
 use Rattle.marks.proofs.Around.{around-active}
-use Rattle.marks.proofs.Eight.{beside, eight-long, Place, place}
-
--- k in the PLC, and k outside it
-pub in-plc : (d : Device) (p : Plan) (l : ℕ) → l ≡ p .plc → (k : ℕ) → l ≤ k → k < l + d .plcWidth → inPlc d p k ≡ true
-unfolding inPlc
-in-plc d p l e k a b = ap₂ (λ (x y : Bool). x && y) (le-leb (p .plc) k (omega arith)) (lt-ltb k (p .plc + d .plcWidth) (omega arith))
-
-pub off-plc : (d : Device) (p : Plan) (l : ℕ) → l ≡ p .plc → (k : ℕ) → (k < l) ⊎ (l + d .plcWidth ≤ k) → inPlc d p k ≡ false
-unfolding inPlc
-off-plc d p l e k (inl a) = ap (λ (x : Bool). x && ltb k (p .plc + d .plcWidth)) (lt-leb (p .plc) k (omega arith))
-off-plc d p l e k (inr b) = ap (λ (x : Bool). leb (p .plc) k && x) (le-ltb k (p .plc + d .plcWidth) (omega arith)) ∙ and-false (leb (p .plc) k)
 
 -- the PLC is marked
 pub plc-marked : (d : Device) (p : Plan) (l : ℕ) (old m : List ℕ) → Free d p l → Cells (d .subcarriers) (painted (excluded p)) old → Stamped plcMark (between l (l + d .plcWidth)) old m

@@ -1,18 +1,16 @@
-// The mark of every subcarrier painted into a lent array, with grounds 6 to 8 on the way; the predefined pilots; the role test.
+// The mark of every subcarrier painted into a lent array, with grounds 6 to 8 on the way.
 // `plan` is there for the contracts: these functions do not read it.
-ghost use Prim.Native.Nat.{_≤_, _<_};
+ghost use Prim.Native.Nat.{_≤_};
 ghost use mathlib.Core.Path.{_≡_};
 ghost use mathlib.Core.List.{[]};
 ghost use lib.ListN.{length};
 ghost use Rattle.counting.specs.Search.{isZero};
 ghost use Rattle.counting.specs.Answer.{placeOf};
 ghost use Rattle.counting.specs.Runs.{Runs};
-ghost use Rattle.rules.specs.Device.{khz50, phases};
 ghost use Rattle.rules.specs.Plan.{planOf};
 ghost use Rattle.rules.specs.Bands.{excluded};
-ghost use Rattle.rules.specs.Roles.{oneOf, predefined, mark, role, continuousMark};
+ghost use Rattle.rules.specs.Roles.{oneOf, predefined, continuousMark};
 ghost use Rattle.rules.specs.Grounds.{outside, aroundPlc, pilotClash};
-ghost use Rattle.rules.specs.Answers.{pilotsOf};
 ghost use Rattle.rules.specs.Fits.{Fits, capacity};
 ghost use Rattle.marks.specs.Marked.{Cells, grounds6to8, MarkedIf, Ready};
 ghost use Rattle.marks.specs.Stages.{between, Stamped, AllBelow, FirstOf, painted, withPilots, Free, Placed, AfterPilots};
@@ -20,7 +18,6 @@ use counting::Found;
 use counting::wide;
 use rules::Device;
 use rules::Finding;
-use rules::Role;
 
 // The mark of an excluded subcarrier.
 const EXCLUDED: u16 = 0x8002;
@@ -30,94 +27,6 @@ const CONTINUOUS: u16 = 0x8003;
 
 // The mark of a subcarrier of the PLC.
 const PLC: u16 = 0x8004;
-
-// Phases are 0 to 127.
-const PHASES: usize = 128;
-
-// The predefined pilots of L, rising.
-pub fn pilots_of(d: Device, l: usize) -> [u16; 8]
-    requires { ⌜ Fits d × (d .lowPlc ≤ l) × (l ≤ d .highPlc) ⌝ }
-    ensures { λ r. ⌜ r ≡ predefined d l ⌝ }
-{
-    let ds = d.distances;
-    let a = wide(ds[0]);
-    let b = wide(ds[1]);
-    let c = wide(ds[2]);
-    let e = wide(ds[3]);
-    let last = l + d.plcWidth - 1;
-    [
-        (l - e) as u16,
-        (l - c) as u16,
-        (l - b) as u16,
-        (l - a) as u16,
-        (last + a) as u16,
-        (last + b) as u16,
-        (last + c) as u16,
-        (last + e) as u16,
-    ]
-}
-
-// The predefined pilots of L in the 50 kHz device; zeros where L is out of its range.
-pub fn predefined_pilots(l: u16) -> [u16; 8]
-    ensures { λ r. ⌜ r ≡ pilotsOf khz50 l ⌝ }
-{
-    let d = rules::khz50_device();
-    let low = wide(l);
-    if low < d.lowPlc {
-        return [0; 8];
-    }
-    if d.highPlc < low {
-        return [0; 8];
-    }
-    pilots_of(d, low)
-}
-
-// k is one of the pilots.
-fn is_among(pilots: [u16; 8], k: usize) -> bool
-    ensures { λ r. ⌜ r ≡ oneOf k pilots ⌝ }
-{
-    let mut n: usize = 0;
-    while n < 8 {
-        if wide(pilots[n]) == k {
-            return true;
-        }
-        n += 1;
-    }
-    false
-}
-
-// The role of subcarrier k at phase j, from its mark, the predefined pilots and L.
-pub fn role_test(
-    d: Device,
-    plan: &[u8],
-    m: u16,
-    pilots: [u16; 8],
-    l: usize,
-    k: usize,
-    j: usize,
-) -> Role
-    requires { ⌜ Fits d × (m ≡ mark d (planOf (now plan)) k) × (pilots ≡ predefined d (planOf (now plan) .plc)) × (l ≡ planOf (now plan) .plc) × (l ≤ d .highPlc) × (k < d .subcarriers) × (j < phases) ⌝ }
-    ensures { λ r. ⌜ r ≡ role d (planOf (now (plan .entry))) j k ⌝ }
-{
-    if m == EXCLUDED {
-        return Role::Excluded;
-    }
-    if l <= k {
-        if k < l + d.plcWidth {
-            return Role::Plc;
-        }
-    }
-    if is_among(pilots, k) {
-        return Role::Continuous;
-    }
-    if m == CONTINUOUS {
-        return Role::Continuous;
-    }
-    if k % PHASES == (l + d.plcWidth + j) % PHASES {
-        return Role::Scattered;
-    }
-    Role::Data
-}
 
 // The cells from a to b - 1 set to v.
 fn spread(m: &mut [u16; 4096], a: usize, b: usize, v: u16)
@@ -208,7 +117,7 @@ fn mark_fixed(d: Device, plan: &[u8], m: &mut [u16; 4096], l: usize)
     ensures { λ _. ⌜ Cells (d .subcarriers) (withPilots d (planOf (now (plan .entry))) (λ k. oneOf k (predefined d (planOf (now (plan .entry)) .plc)))) (now (m .exit)) ⌝ }
 {
     spread(m, l, l + d.plcWidth, PLC);
-    mark_pilots(m, pilots_of(d, l));
+    mark_pilots(m, roles::pilots_of(d, l));
 }
 
 // Ground 8: a kind 3 pilot stands on a mark. Those before it are marked.

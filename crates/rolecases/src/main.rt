@@ -1,4 +1,4 @@
-// Asks `marks::predefined_pilots` and `judge::role`, and prints what tests/roles.py works out with the second model. The first line is
+// Asks `roles::predefined_pilots` and `judge::role`, and prints what tests/roles.py works out with the second model. The first line is
 // the checksum of the pilots of every L from 0 to 65535. Then each case has a line: of the answers for subcarriers 0 to 4096, 66388
 // and 4294967295, how many were excluded, PLC, continuous, scattered, data and refused, and the checksum of all in this order.
 // Standard input holds, for each case, the plan's length as four bytes, high byte first and the upper two zero, the phase as four
@@ -137,7 +137,7 @@ fn all_pilots() -> u32 {
     let mut sum: u32 = 0;
     let mut l: u32 = 0;
     while l < 65536 {
-        let next = mixed_pilots(sum, marks::predefined_pilots(l as u16));
+        let next = mixed_pilots(sum, roles::predefined_pilots(l as u16));
         sum = next;
         l += 1;
     }

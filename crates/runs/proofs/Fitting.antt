@@ -19,7 +19,7 @@ use Rattle.rules.specs.Plan.{Plan}
 use Rattle.rules.specs.Roles.{role, ranked, mark}
 use Rattle.rules.specs.Frame.{Frame, frameOf, cells, spot, holder, delay, phaseBack, held, isData, dataCount, Given, flush, symbol, dataList, inputCells, lineSymbol, filler, topData, fitsRole}
 use Rattle.rules.specs.Steps.{Emitter, Send, givenGrounds, frameStep}
-use Rattle.marks.proofs.Fitting.{cellFits, fits-role}
+use Rattle.roles.proofs.Fitting.{cellFits, fits-role}
 use Rattle.frame.specs.Counted.{phaseOf}
 use Rattle.frame.proofs.Cells.{Sound, input-data, input-held, holder-below, spot-holder, line-ranked, line-unranked}
 use Rattle.runs.specs.Run.{input, sent}

@@ -20,7 +20,7 @@ use Rattle.rules.specs.Frame.{Frame, frameOf, cells, spot, delay, phaseBack, he
 use Rattle.rules.specs.Steps.{Emitter, Send, frameStep}
 use Rattle.frame.specs.Counted.{phaseOf}
 use Rattle.frame.proofs.Cells.{Sound, data-cell, data-cell-held, data-cell-at, spot-below, spot-ranked, spot-inj, line-spot}
-use Rattle.marks.proofs.Testing.{role-is}
+use Rattle.roles.proofs.Testing.{role-is}
 use Rattle.runs.specs.Run.{input, sent}
 use Rattle.runs.specs.Demand3.{dataCell, sentNumber, Placed}
 use Rattle.runs.proofs.Steps.{given-length, FreshIn}

@@ -6,9 +6,9 @@ use native.Mathlib.Omega.{arith}
 use lib.ListN.{length, getD, set, take}
 use Rattle.rules.specs.Roles.{oneOf, continuousMark}
 use Rattle.rules.specs.Fits.{capacity}
+use Rattle.roles.proofs.Eight.{one-none, one-more, one-all}
 use Rattle.marks.specs.Stages.{Stamped}
 use Rattle.marks.proofs.Stretches.{stamp-start, stamp-more, stamp-same}
-use Rattle.marks.proofs.Eight.{one-none, one-more, one-all}
 use Rattle.marks.proofs.mark_pilots.Statement.{statement}
 use Rattle.marks.proofs.mark_pilots.Tie as tie
 

@@ -1,4 +1,4 @@
--- `marks::is_among` meets its contract. The loop has passed pilots none of which is k. Assumes nothing.
+-- `roles::is_among` meets its contract. The loop has passed pilots none of which is k. Assumes nothing.
 use borrow.Author.Needs.{needs}
 use Prim.Native.Nat.{_-_, _≤_}
 use mathlib.Core.Path.{_≡_, sym, ap₂, _∙_}
@@ -7,9 +7,9 @@ use native.Mathlib.Omega.{arith}
 use lib.ListN.{length, take}
 use borrow.Author.Tests.{eq-eqb, ne-eqb}
 use Rattle.rules.specs.Roles.{oneOf}
-use Rattle.marks.proofs.Eight.{one-none, one-more, one-all, one-at}
-use Rattle.marks.proofs.is_among.Statement.{statement}
-use Rattle.marks.proofs.is_among.Tie as tie
+use Rattle.roles.proofs.Eight.{one-none, one-more, one-all, one-at}
+use Rattle.roles.proofs.is_among.Statement.{statement}
+use Rattle.roles.proofs.is_among.Tie as tie
 
 abbrev Inv-loop : tie.InvT-loop
 Inv-loop k pilots n₀ n = (n ≤ 8) × (oneOf k (take n pilots) ≡ false)

@@ -1,12 +1,12 @@
--- `marks::pilots_of` meets its contract. Assumes nothing.
+-- `roles::pilots_of` meets its contract. Assumes nothing.
 use borrow.Author.Needs.{needs}
 use mathlib.Core.Path.{_∙_}
 use native.Mathlib.Omega.{arith}
 use Prim.Native.Nat.{_+_, _-_, _≤_}
 use Rattle.rules.specs.Fits.{capacity}
-use Rattle.marks.proofs.Eight.{eight, eight-is}
-use Rattle.marks.proofs.pilots_of.Statement.{statement}
-use Rattle.marks.proofs.pilots_of.Tie as tie
+use Rattle.roles.proofs.Eight.{eight, eight-is}
+use Rattle.roles.proofs.pilots_of.Statement.{statement}
+use Rattle.roles.proofs.pilots_of.Tie as tie
 
 abbrev start : tie.After-struct-known → tie.Start
 start c = c .before .before .before .before .before .before

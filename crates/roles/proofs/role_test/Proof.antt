@@ -1,4 +1,4 @@
--- `marks::role_test` meets its contract. Assumes nothing.
+-- `roles::role_test` meets its contract. Assumes nothing.
 use borrow.Author.Needs.{needs}
 use mathlib.Core.Path.{_≡_, refl, sym, ap, _∙_}
 use mathlib.Core.Logic.{inl, inr, ⊎-elim}
@@ -7,10 +7,9 @@ use borrow.Author.Tests.{eq-eqb, ne-eqb}
 use Rattle.rules.specs.Plan.{planOf}
 use Rattle.rules.specs.Bands.{excluded}
 use Rattle.rules.specs.Roles.{oneOf, inPlc, continuous}
-use Rattle.marks.proofs.Placing.{in-plc, off-plc}
-use Rattle.marks.proofs.Testing.{role-is, among-pilots, told-excluded, told-active, told-pilot, told-ranked, scattered-is}
-use Rattle.marks.proofs.role_test.Statement.{statement}
-use Rattle.marks.proofs.role_test.Tie as tie
+use Rattle.roles.proofs.Testing.{in-plc, off-plc, role-is, among-pilots, told-excluded, told-active, told-pilot, told-ranked, scattered-is}
+use Rattle.roles.proofs.role_test.Statement.{statement}
+use Rattle.roles.proofs.role_test.Tie as tie
 
 -- the function's entry, past each test
 abbrev from1 : tie.Else1 → tie.Start

@@ -1,16 +1,27 @@
--- The role test: what a mark says of a subcarrier, and the role from the tests in their order. Assumes nothing.
-use Prim.Native.Nat.{ℕ, _+_, _%_}
+-- The role test: whether a subcarrier is in the PLC, what its mark says of it, and the role from the tests in their order. Assumes nothing.
+use Prim.Native.Nat.{ℕ, _+_, _%_, _≤_, _<_}
 use mathlib.Core.Path.{_≡_, refl, sym, ap, ap₂, _∙_}
 use mathlib.Core.Logic.{_⊎_, inl, inr}
-use mathlib.Core.Bool.{Bool, true, false, _||_}
+use mathlib.Core.Bool.{Bool, true, false, _&&_, _||_}
 use native.Mathlib.Omega.{arith}
-use lib.Dec.{eqb}
-use Rattle.counting.proofs.Bools.{decide-bool}
+use lib.Dec.{leb, ltb, eqb}
+use borrow.Author.Tests.{lt-ltb, le-ltb, le-leb, lt-leb}
+use Rattle.counting.proofs.Bools.{and-false, decide-bool}
 use Rattle.rules.specs.declared.Device.{Device}
 use Rattle.rules.specs.Device.{phases}
 use Rattle.rules.specs.Plan.{Plan}
 use Rattle.rules.specs.Bands.{any, excluded}
 use Rattle.rules.specs.Roles.{oneOf, predefined, names, inPlc, continuous, scatteredAt, role, mark, excludedMark, continuousMark, firstMark, firstRole}
+
+-- k in the PLC, and k outside it
+pub in-plc : (d : Device) (p : Plan) (l : ℕ) → l ≡ p .plc → (k : ℕ) → l ≤ k → k < l + d .plcWidth → inPlc d p k ≡ true
+unfolding inPlc
+in-plc d p l e k a b = ap₂ (λ (x y : Bool). x && y) (le-leb (p .plc) k (omega arith)) (lt-ltb k (p .plc + d .plcWidth) (omega arith))
+
+pub off-plc : (d : Device) (p : Plan) (l : ℕ) → l ≡ p .plc → (k : ℕ) → (k < l) ⊎ (l + d .plcWidth ≤ k) → inPlc d p k ≡ false
+unfolding inPlc
+off-plc d p l e k (inl a) = ap (λ (x : Bool). x && ltb k (p .plc + d .plcWidth)) (lt-leb (p .plc) k (omega arith))
+off-plc d p l e k (inr b) = ap (λ (x : Bool). leb (p .plc) k && x) (le-ltb k (p .plc + d .plcWidth) (omega arith)) ∙ and-false (leb (p .plc) k)
 
 marked-excluded : (a b c : Bool) → firstMark a b c ≡ excludedMark → a ≡ true
 marked-excluded true b c e = refl

@@ -10,7 +10,7 @@ use Rattle.rules.specs.Plan.{Plan}
 use Rattle.rules.specs.Bands.{excluded, active}
 use Rattle.rules.specs.Roles.{inPlc, continuous, scatteredAt, role, ranked, firstMark, firstRole}
 use Rattle.rules.specs.Frame.{Frame, frameOf, fitsRole, placeholder, filler, topData}
-use Rattle.marks.proofs.Testing.{mark-is, role-is}
+use Rattle.roles.proofs.Testing.{mark-is, role-is}
 
 -- the cell x may stand on subcarrier k of a symbol at phase j
 unfoldable pub cellFits : Frame → ℕ → ℕ → ℕ → Bool

@@ -1,4 +1,4 @@
--- `marks::predefined_pilots` meets its contract. Assumes nothing.
+-- `roles::predefined_pilots` meets its contract. Assumes nothing.
 use borrow.Author.Needs.{needs}
 use mathlib.Core.Path.{_≡_, sym, ap₂, _∙_, subst}
 use native.Mathlib.Omega.{arith}
@@ -7,9 +7,9 @@ use Rattle.rules.specs.declared.Device.{Device}
 use Rattle.rules.specs.Answers.{pilotsOf}
 use Rattle.rules.specs.Fits.{Fits}
 use Rattle.rules.proofs.Sizes.{khz50-fits}
-use Rattle.marks.proofs.Eight.{in-range, below-range, above-range}
-use Rattle.marks.proofs.predefined_pilots.Statement.{statement}
-use Rattle.marks.proofs.predefined_pilots.Tie as tie
+use Rattle.roles.proofs.Eight.{in-range, below-range, above-range}
+use Rattle.roles.proofs.predefined_pilots.Statement.{statement}
+use Rattle.roles.proofs.predefined_pilots.Tie as tie
 
 khz50-device-requires : tie.Need-khz50-device-requires
 khz50-device-requires c κs = search needs
