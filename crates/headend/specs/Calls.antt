@@ -9,8 +9,8 @@ use Rattle.rules.specs.Answers.{roleAnswer}
 use Rattle.rules.specs.Steps.{Starting, Sending, dataCountAnswer}
 use Rattle.rules.specs.Receive.{Listening, Receiving}
 use Rattle.bytecells.specs.ByteSteps.{startBytes, listenBytes, emitBytes, flushBytes, receiveBytes}
-use Rattle.headend.specs.declared.Told.{Told}
-use Rattle.headend.specs.Answer.{short, written, toldVerdict, toldRole, toldCount, toldStart, toldListen, toldSend, toldReceive}
+use Rattle.answers.specs.declared.Told.{Told}
+use Rattle.answers.specs.Answer.{short, written, toldVerdict, toldRole, toldCount, toldStart, toldListen, toldSend, toldReceive}
 
 -- what a call returns, and what it leaves in the answer buffer
 pub record Said : Type 0 where

@@ -1,9 +1,9 @@
--- `headend::told_verdict` meets its contract. Assumes nothing.
+-- `answers::told_verdict` meets its contract. Assumes nothing.
 use borrow.Author.Needs.{needs}
 use mathlib.Core.Path.{sym, ap, _∙_}
-use Rattle.headend.specs.Answer.{toldVerdict}
-use Rattle.headend.proofs.told_verdict.Statement.{statement}
-use Rattle.headend.proofs.told_verdict.Tie as tie
+use Rattle.answers.specs.Answer.{toldVerdict}
+use Rattle.answers.proofs.told_verdict.Statement.{statement}
+use Rattle.answers.proofs.told_verdict.Tie as tie
 
 enum-known-v : tie.Need-enum-known-v
 enum-known-v c = search needs

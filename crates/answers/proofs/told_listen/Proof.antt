@@ -1,9 +1,9 @@
--- `headend::told_listen` meets its contract. Assumes nothing.
+-- `answers::told_listen` meets its contract. Assumes nothing.
 use borrow.Author.Needs.{needs}
 use mathlib.Core.Path.{sym, ap, _∙_}
-use Rattle.headend.specs.Answer.{toldListen}
-use Rattle.headend.proofs.told_listen.Statement.{statement}
-use Rattle.headend.proofs.told_listen.Tie as tie
+use Rattle.answers.specs.Answer.{toldListen}
+use Rattle.answers.proofs.told_listen.Statement.{statement}
+use Rattle.answers.proofs.told_listen.Tie as tie
 
 enum-known-a : tie.Need-enum-known-a
 enum-known-a c = search needs

@@ -22,7 +22,7 @@ use Rattle.rules.specs.declared.SendAnswer.{SendAnswer}
 use Rattle.rules.specs.declared.SendAnswer.the-variants as a-send
 use Rattle.rules.specs.declared.ReceiveAnswer.{ReceiveAnswer}
 use Rattle.rules.specs.declared.ReceiveAnswer.the-variants as a-receive
-use Rattle.headend.specs.declared.Told.{Told}
+use Rattle.answers.specs.declared.Told.{Told}
 
 -- ---- the layout
 

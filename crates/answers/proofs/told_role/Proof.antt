@@ -1,9 +1,9 @@
--- `headend::told_role` meets its contract. Assumes nothing.
+-- `answers::told_role` meets its contract. Assumes nothing.
 use borrow.Author.Needs.{needs}
 use mathlib.Core.Path.{sym, ap, _∙_}
-use Rattle.headend.specs.Answer.{valued, toldRole}
-use Rattle.headend.proofs.told_role.Statement.{statement}
-use Rattle.headend.proofs.told_role.Tie as tie
+use Rattle.answers.specs.Answer.{valued, toldRole}
+use Rattle.answers.proofs.told_role.Statement.{statement}
+use Rattle.answers.proofs.told_role.Tie as tie
 
 enum-known-a : tie.Need-enum-known-a
 enum-known-a c = search needs

@@ -1,12 +1,12 @@
--- `headend::tell` meets its contract. Assumes nothing.
+-- `answers::tell` meets its contract. Assumes nothing.
 use borrow.Author.Needs.{needs}
 use Prim.Native.Nat.{ℕ}
 use mathlib.Core.Path.{refl, ap, _∙_}
 use mathlib.Core.List.{List}
 use lib.Seq.{sets}
-use Rattle.headend.specs.Answer.{four, layout, written}
-use Rattle.headend.proofs.tell.Statement.{statement}
-use Rattle.headend.proofs.tell.Tie as tie
+use Rattle.answers.specs.Answer.{four, layout, written}
+use Rattle.answers.proofs.tell.Statement.{statement}
+use Rattle.answers.proofs.tell.Tie as tie
 
 put-four-requires : tie.Need-put-four-requires
 put-four-requires c κs = search needs

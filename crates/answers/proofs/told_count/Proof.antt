@@ -1,9 +1,9 @@
--- `headend::told_count` meets its contract. Assumes nothing.
+-- `answers::told_count` meets its contract. Assumes nothing.
 use borrow.Author.Needs.{needs}
 use mathlib.Core.Path.{sym, ap, _∙_}
-use Rattle.headend.specs.Answer.{toldCount}
-use Rattle.headend.proofs.told_count.Statement.{statement}
-use Rattle.headend.proofs.told_count.Tie as tie
+use Rattle.answers.specs.Answer.{toldCount}
+use Rattle.answers.proofs.told_count.Statement.{statement}
+use Rattle.answers.proofs.told_count.Tie as tie
 
 enum-known-a : tie.Need-enum-known-a
 enum-known-a c = search needs

@@ -1,9 +1,9 @@
--- `headend::told_send` meets its contract. Assumes nothing.
+-- `answers::told_send` meets its contract. Assumes nothing.
 use borrow.Author.Needs.{needs}
 use mathlib.Core.Path.{sym, ap}
-use Rattle.headend.specs.Answer.{toldSend}
-use Rattle.headend.proofs.told_send.Statement.{statement}
-use Rattle.headend.proofs.told_send.Tie as tie
+use Rattle.answers.specs.Answer.{toldSend}
+use Rattle.answers.proofs.told_send.Statement.{statement}
+use Rattle.answers.proofs.told_send.Tie as tie
 
 enum-known-a : tie.Need-enum-known-a
 enum-known-a c = search needs

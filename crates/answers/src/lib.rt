@@ -1,0 +1,204 @@
+// The layout of an answer to a C host: the numbers of each answer of an entry (`told_verdict` and the others), and `tell`, which writes them
+// as 20 bytes. `tell` asks for a buffer of that length: its callers have tried it.
+ghost use mathlib.Core.Path.{_≡_};
+ghost use Prim.Native.Nat.{_+_, _≤_};
+ghost use lib.ListN.{length};
+ghost use lib.Seq.{sets};
+ghost use Rattle.answers.specs.Answer.{four, written, roleNumber, valued, refusal, toldVerdict, toldRole, toldCount, toldStart, toldListen, toldSend, toldReceive};
+use rules::CountAnswer;
+use rules::ListenAnswer;
+use rules::ReceiveAnswer;
+use rules::ReceiverState;
+use rules::Role;
+use rules::RoleAnswer;
+use rules::SendAnswer;
+use rules::StartAnswer;
+use rules::Verdict;
+
+// An answer in numbers: what is returned, and what goes to the answer buffer.
+pub struct Told {
+    pub number: u32,
+    pub place: u32,
+    pub phase: u32,
+    pub row: u32,
+    pub heard: u32,
+    pub value: u32,
+}
+
+// A value, and no state.
+fn valued(value: u32) -> Told
+    ensures { λ r. ⌜ r ≡ valued value ⌝ }
+{
+    Told {
+        number: 0,
+        place: 0,
+        phase: 0,
+        row: 0,
+        heard: 0,
+        value,
+    }
+}
+
+// Refused, and no state.
+fn refusal(number: u32, place: u32) -> Told
+    ensures { λ r. ⌜ r ≡ refusal number place ⌝ }
+{
+    Told {
+        number,
+        place,
+        phase: 0,
+        row: 0,
+        heard: 0,
+        value: 0,
+    }
+}
+
+pub fn told_verdict(v: Verdict) -> Told
+    ensures { λ r. ⌜ r ≡ toldVerdict v ⌝ }
+{
+    match v {
+        Verdict::Accepted(n) => valued(n),
+        Verdict::Refused(g, place) => refusal(g, place),
+    }
+}
+
+fn role_number(r: Role) -> u32
+    ensures { λ n. ⌜ n ≡ roleNumber r ⌝ }
+{
+    match r {
+        Role::Excluded => 1,
+        Role::Plc => 2,
+        Role::Continuous => 3,
+        Role::Scattered => 4,
+        Role::Data => 5,
+    }
+}
+
+pub fn told_role(a: RoleAnswer) -> Told
+    ensures { λ r. ⌜ r ≡ toldRole a ⌝ }
+{
+    match a {
+        RoleAnswer::Is(r) => valued(role_number(r)),
+        RoleAnswer::Refused(g, place) => refusal(g, place),
+    }
+}
+
+pub fn told_count(a: CountAnswer) -> Told
+    ensures { λ r. ⌜ r ≡ toldCount a ⌝ }
+{
+    match a {
+        CountAnswer::Count(n) => valued(n),
+        CountAnswer::Refused(g, place) => refusal(g, place),
+    }
+}
+
+pub fn told_start(a: StartAnswer) -> Told
+    ensures { λ r. ⌜ r ≡ toldStart a ⌝ }
+{
+    match a {
+        StartAnswer::Started(e) => Told {
+            number: 0,
+            place: 0,
+            phase: e.phase,
+            row: e.row,
+            heard: 0,
+            value: 0,
+        },
+        StartAnswer::Refused(g, place) => refusal(g, place),
+    }
+}
+
+pub fn told_listen(a: ListenAnswer) -> Told
+    ensures { λ r. ⌜ r ≡ toldListen a ⌝ }
+{
+    match a {
+        ListenAnswer::Started(v) => Told {
+            number: 0,
+            place: 0,
+            phase: v.phase,
+            row: v.row,
+            heard: v.heard,
+            value: 0,
+        },
+        ListenAnswer::Refused(g, place) => refusal(g, place),
+    }
+}
+
+pub fn told_send(a: SendAnswer) -> Told
+    ensures { λ r. ⌜ r ≡ toldSend a ⌝ }
+{
+    match a {
+        SendAnswer::Sent(e) => Told {
+            number: 0,
+            place: 0,
+            phase: e.phase,
+            row: e.row,
+            heard: 0,
+            value: 0,
+        },
+        SendAnswer::Refused(g, at, e) => Told {
+            number: g,
+            place: at,
+            phase: e.phase,
+            row: e.row,
+            heard: 0,
+            value: 0,
+        },
+    }
+}
+
+// A receiver's state after a step that no ground refused, and how many data cells it handed out.
+fn told_state(v: ReceiverState, count: u32) -> Told
+    ensures { λ r. ⌜ r ≡ record { number = 0; place = 0; phase = v .phase; row = v .row; heard = v .heard; value = count } ⌝ }
+{
+    Told {
+        number: 0,
+        place: 0,
+        phase: v.phase,
+        row: v.row,
+        heard: v.heard,
+        value: count,
+    }
+}
+
+pub fn told_receive(a: ReceiveAnswer) -> Told
+    ensures { λ r. ⌜ r ≡ toldReceive a ⌝ }
+{
+    match a {
+        ReceiveAnswer::Warming(v) => told_state(v, 0),
+        ReceiveAnswer::Data(v, n) => told_state(v, n),
+        ReceiveAnswer::Refused(g, at, v) => Told {
+            number: g,
+            place: at,
+            phase: v.phase,
+            row: v.row,
+            heard: v.heard,
+            value: 0,
+        },
+    }
+}
+
+// Writes a number as four bytes, high byte first.
+fn put_four(a: &mut [u8], at: usize, x: u32)
+    requires { ⌜ at + 4 ≤ length (now a) ⌝ }
+    ensures { λ _. ⌜ now (a .exit) ≡ sets (now (a .entry)) at (four x) ⌝ }
+{
+    a[at] = (x / 16777216) as u8;
+    a[at + 1] = (x / 65536 % 256) as u8;
+    a[at + 2] = (x / 256 % 256) as u8;
+    a[at + 3] = (x % 256) as u8;
+}
+
+// Lays the answer out at the start of the buffer, and returns its number.
+pub fn tell(a: &mut [u8], t: Told) -> u32
+    requires { ⌜ 20 ≤ length (now a) ⌝ }
+    ensures number { λ r. ⌜ r ≡ t .number ⌝ }
+    ensures answer { λ r. ⌜ now (a .exit) ≡ written (now (a .entry)) t ⌝ }
+{
+    put_four(a, 0, t.place);
+    put_four(a, 4, t.phase);
+    put_four(a, 8, t.row);
+    put_four(a, 12, t.heard);
+    put_four(a, 16, t.value);
+    t.number
+}
