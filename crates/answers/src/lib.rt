@@ -128,11 +128,11 @@ pub fn told_send(a: SendAnswer) -> Told
     ensures { λ r. ⌜ r ≡ toldSend a ⌝ }
 {
     match a {
-        SendAnswer::Sent(e) => Told {
+        SendAnswer::Sent(next) => Told {
             number: 0,
             place: 0,
-            phase: e.phase,
-            row: e.row,
+            phase: next.phase,
+            row: next.row,
             heard: 0,
             value: 0,
         },
