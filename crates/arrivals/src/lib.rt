@@ -118,7 +118,7 @@ pub fn wrong_cell(
     requires { ⌜ Fits d × Studied d (now plan) (now marks) × (j ≤ 4096) × (length (now symbol) ≡ d .subcarriers) ⌝ }
     ensures { λ r. ⌜ placeOf r ≡ lowest (wrongCell (frameOf d (planOf (now (plan .entry)))) j (now (symbol .entry))) (d .subcarriers) ⌝ }
 {
-    let l = plan::number_at(plan, 4);
+    let l = records::number_at(plan, 4);
     scatter(marks, d.subcarriers, (l + d.plcWidth + j) % PHASES);
     first_wrong(marks, symbol)
 }

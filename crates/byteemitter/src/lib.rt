@@ -94,7 +94,7 @@ fn send_in(
     requires { ⌜ Ready d (now plan) (length (now x)) (now marks) × (length (now car) ≡ 4096) × (length (now kc) ≡ length (now x)) × (length (now flag) ≡ length (now x)) × (length (now given) ≡ length (now x)) × (length (now out) ≡ d .subcarriers) × Whole (now store) × Whole (now input) × Whole (now symbol) ⌝ }
     ensures { λ r. ⌜ leaves r (now (store .exit)) (now (symbol .exit)) ≡ sentBytes (stepBy d (now (plan .entry)) flushing state (cellsOf (now (store .entry))) (cellsOf (now (input .entry))) (cellsOf (now (symbol .entry)))) ⌝ }
 {
-    let m = plan::number_at(plan, 6);
+    let m = records::number_at(plan, 6);
     let j = state.phase as usize;
     match steps::ready(
         d,

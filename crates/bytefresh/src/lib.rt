@@ -68,7 +68,7 @@ fn start_in(
     requires { ⌜ Ready d (now plan) (length (now kc)) (now marks) × (length (now car) ≡ 4096) × (length (now x) ≡ length (now kc)) × Whole (now store) ⌝ }
     ensures { λ r. ⌜ starts r (now (store .exit)) ≡ startedBytes (startStep d (now (plan .entry)) phase (cellsOf (now (store .entry)))) ⌝ }
 {
-    let m = plan::number_at(plan, 6);
+    let m = records::number_at(plan, 6);
     let places = store.len() / 2;
     if let Finding::Ground(g, place) = fresh::start_grounds(d, plan, m, kc.len(), phase, places) {
         return StartAnswer::Refused(g, place);
@@ -113,7 +113,7 @@ fn listen_in(d: Device, plan: &[u8], ni: usize, phase: u32, store: &mut [u8]) ->
     requires { ⌜ (grounds1to15 d (now plan) ≡ Fine) × (ni ≡ cells (frameOf d (planOf (now plan)))) × (ni ≤ 4096) × Whole (now store) ⌝ }
     ensures { λ r. ⌜ listens r (now (store .exit)) ≡ listenedBytes (listenStep d (now (plan .entry)) phase (cellsOf (now (store .entry)))) ⌝ }
 {
-    let m = plan::number_at(plan, 6);
+    let m = records::number_at(plan, 6);
     let places = store.len() / 2;
     if let Finding::Ground(g, place) = fresh::start_grounds(d, plan, m, ni, phase, places) {
         return ListenAnswer::Refused(g, place);

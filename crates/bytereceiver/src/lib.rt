@@ -123,7 +123,7 @@ fn receive_in(
     requires { ⌜ Ready d (now plan) (length (now kc)) (now marks) × (length (now car) ≡ 4096) × (length (now flag) ≡ length (now kc)) × (length (now x) ≡ length (now kc)) × (length (now y) ≡ d .subcarriers) × Whole (now store) × Whole (now symbol) × Whole (now buffer) ⌝ }
     ensures { λ r. ⌜ hears r (now (store .exit)) (now (buffer .exit)) ≡ heardBytes (receiveStep d (now (plan .entry)) state (cellsOf (now (store .entry))) (cellsOf (now (symbol .entry))) (cellsOf (now (buffer .entry)))) ⌝ }
 {
-    let m = plan::number_at(plan, 6);
+    let m = records::number_at(plan, 6);
     match receiving::ready(
         d,
         plan,

@@ -48,7 +48,7 @@ pub fn flags_at(d: Device, plan: &[u8], m: usize, j: usize, kc: &[u16], flag: &m
     ensures flags { λ r. ⌜ ((p : ℕ) → p < length (now (kc .entry)) → getD (now (flag .exit)) p 0 ≡ bit (held (frameOf d (planOf (now (plan .entry)))) j p)) ⌝ }
     ensures number { λ r. ⌜ r ≡ dataCount (frameOf d (planOf (now (plan .entry)))) j ⌝ }
 {
-    let l = plan::number_at(plan, 4);
+    let l = records::number_at(plan, 4);
     let n = placeholders::holders(m, l + d.plcWidth + j, kc, flag);
     kc.len() - n
 }
@@ -92,7 +92,7 @@ fn count_in(d: Device, plan: &[u8], marks: &[u16; 4096], ni: usize, phase: u32) 
     if PHASES <= j {
         return CountAnswer::Refused(16, 0);
     }
-    let m = plan::number_at(plan, 6);
+    let m = records::number_at(plan, 6);
     let mut car = [0u16; 4096];
     let mut kc = [0u16; 4096];
     let mut flag = [0u8; 4096];

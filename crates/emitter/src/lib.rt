@@ -58,7 +58,7 @@ fn send_in(
     requires { ⌜ Ready d (now plan) (length (now x)) (now marks) × (length (now car) ≡ 4096) × (length (now kc) ≡ length (now x)) × (length (now flag) ≡ length (now x)) ⌝ }
     ensures { λ r. ⌜ leaves r (now (store .exit)) (now (out .exit)) ≡ stepBy d (now (plan .entry)) flushing state (now (store .entry)) (now (input .entry)) (now (out .entry)) ⌝ }
 {
-    let m = plan::number_at(plan, 6);
+    let m = records::number_at(plan, 6);
     let j = state.phase as usize;
     match steps::ready(
         d,

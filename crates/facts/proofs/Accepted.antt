@@ -11,7 +11,7 @@ use Rattle.rules.specs.declared.Device.{Device}
 use Rattle.rules.specs.declared.Finding.the-variants.{Fine}
 use Rattle.rules.specs.Plan.{planOf, chain}
 use Rattle.rules.specs.Grounds.{ground?, badLength, pilotsMax, chainGrounds, grounds1to5, grounds6to15, grounds1to15}
-use Rattle.plan.proofs.RecordLaws as record-laws
+use Rattle.records.proofs.RecordLaws as record-laws
 use Rattle.plan.proofs.NotedLaws as chain-laws
 
 -- a ground that is not found does not hold

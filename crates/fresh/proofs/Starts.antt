@@ -18,7 +18,7 @@ use Rattle.rules.specs.Frame.{Frame, frameOf, cells}
 use Rattle.rules.specs.Store.{freshStore, fillerStore}
 use Rattle.rules.specs.Steps.{Starting, starts, ground16, shortStore, startGrounds, frameStart, startStep}
 use Rattle.rules.specs.Receive.{Listening, listens, frameListen, listenStep}
-use Rattle.plan.proofs.RecordLaws.{both-fine}
+use Rattle.records.proofs.RecordLaws.{both-fine}
 use Rattle.facts.proofs.Accepted.{when-fine}
 
 module _ (F : Frame) (j : ℕ) (s : List ℕ) where

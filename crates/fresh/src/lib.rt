@@ -110,7 +110,7 @@ fn start_in(
     requires { ⌜ Ready d (now plan) (length (now kc)) (now marks) × (length (now car) ≡ 4096) ⌝ }
     ensures { λ r. ⌜ starts r (now (store .exit)) ≡ startStep d (now (plan .entry)) phase (now (store .entry)) ⌝ }
 {
-    let m = plan::number_at(plan, 6);
+    let m = records::number_at(plan, 6);
     if let Finding::Ground(g, place) = start_grounds(d, plan, m, kc.len(), phase, store.len()) {
         return StartAnswer::Refused(g, place);
     }
@@ -141,7 +141,7 @@ fn listen_in(d: Device, plan: &[u8], ni: usize, phase: u32, store: &mut [u16]) -
     requires { ⌜ (grounds1to15 d (now plan) ≡ Fine) × (ni ≡ cells (frameOf d (planOf (now plan)))) × (ni ≤ 4096) ⌝ }
     ensures { λ r. ⌜ listens r (now (store .exit)) ≡ listenStep d (now (plan .entry)) phase (now (store .entry)) ⌝ }
 {
-    let m = plan::number_at(plan, 6);
+    let m = records::number_at(plan, 6);
     if let Finding::Ground(g, place) = start_grounds(d, plan, m, ni, phase, store.len()) {
         return ListenAnswer::Refused(g, place);
     }

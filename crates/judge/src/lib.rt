@@ -40,7 +40,7 @@ fn study_tables(
     let mut lo = [0u16; 2048];
     let mut hi = [0u16; 2048];
     let n = ranges::runs(reach, hot, d.subcarriers, &mut lo, &mut hi);
-    let l = plan::number_at(plan, 4);
+    let l = records::number_at(plan, 4);
     match marks::grounds_6_to_8(d, plan, &lo, &hi, n, pil, rec, np, l, m) {
         Finding::Ground(g, k) => Verdict::Refused(g, k),
         Finding::Fine => grounds::grounds_9_to_15(d, plan, &lo, &hi, n, m),
@@ -91,7 +91,7 @@ fn role_in(d: Device, plan: &[u8], m: &[u16; 4096], k: u32, phase: u32) -> RoleA
     if PHASES <= j {
         return RoleAnswer::Refused(16, 0);
     }
-    let l = plan::number_at(plan, 4);
+    let l = records::number_at(plan, 4);
     let pilots = roles::pilots_of(d, l);
     RoleAnswer::Is(roles::role_test(d, plan, m[at], pilots, l, at, j))
 }
@@ -139,6 +139,6 @@ pub fn scattered_count(plan: &[u8], phase: u32) -> CountAnswer
     if PHASES <= j {
         return CountAnswer::Refused(16, 0);
     }
-    let l = plan::number_at(plan, 4);
+    let l = records::number_at(plan, 4);
     CountAnswer::Count(count_scattered(d, plan, &m, l, j))
 }

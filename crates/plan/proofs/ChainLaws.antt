@@ -16,8 +16,9 @@ use Rattle.rules.specs.Plan.{Entry, entry, leads, chain, chainFrom, only, isRan
 use Rattle.rules.specs.Bands.{any, covers}
 use Rattle.rules.specs.Grounds.{_else_, recordGrounds, chainGrounds}
 use Rattle.ranges.specs.Reach.{hit, Table, Flags}
-use Rattle.plan.specs.Walk.{foundAt, Left, Kept, Turned, PutIf, Taken}
-use Rattle.plan.proofs.RecordLaws.{fine-few, fine-next}
+use Rattle.records.specs.Read.{foundAt}
+use Rattle.records.proofs.RecordLaws.{fine-few, fine-next}
+use Rattle.plan.specs.Walk.{Left, Kept, Turned, PutIf, Taken}
 
 -- an entry knows its index
 pub index-is : {e : Entry} (s : List ℕ) (i : ℕ) → e ≡ entry s i → e .index ≡ i

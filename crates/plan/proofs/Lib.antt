@@ -1,4 +1,3 @@
-pub mod RecordLaws
 pub mod PutLaws
 pub mod ChainLaws
 pub mod NotedLaws

@@ -2,32 +2,14 @@
 use mathlib.Core.Path.{_≡_}
 use mathlib.Core.Bool.{Bool, _||_}
 use mathlib.Core.List.{List, [], _++_, map}
-use Prim.Native.Nat.{ℕ, zero, suc, _+_, _<_, _≤_}
+use Prim.Native.Nat.{ℕ, _+_, _<_, _≤_}
 use lib.ListN.{length, take}
 use Rattle.counting.specs.Search.{keep, bit}
 use Rattle.rules.specs.declared.Device.{Device}
-use Rattle.rules.specs.declared.Finding.{Finding}
-use Rattle.rules.specs.declared.Finding.the-variants.{Fine, Ground}
 use Rattle.rules.specs.Plan.{Entry, chain, chainFrom, only, isRange, isPilot}
 use Rattle.rules.specs.Bands.{any, covers}
 use Rattle.rules.specs.Grounds.{chainGrounds, pilotsMax}
 use Rattle.ranges.specs.Reach.{hit, Table, Flags, NotedIf}
-use Rattle.plan.specs.declared.Record.{Record}
-
--- a record as read, as an entry of the definitions
-abbrev pub entryOf : Record → Entry
-entryOf e = record { index = e .index; kind = e .kind; blank = e .blank; next = e .next; low = e .low; high = e .high }
-
--- the index and the numbers of an entry are of two bytes
-pub record Narrow (e : Entry) : Type 0 where
-  pub index : e .index < 65536
-  pub low : e .low < 65536
-  pub high : e .high < 65536
-
--- a ground of 2 to 5 at record i; 0 is none
-abbrev pub foundAt : ℕ → ℕ → Finding
-foundAt zero i = Fine
-foundAt (suc g) i = Ground (suc g) i
 
 -- the grounds before the entries es of the chain do not hold, and the ranges and np pilots before es are in the tables
 pub record Left (d : Device) (s : List ℕ) (r np : ℕ) (reach hot pil rec : List ℕ) (es : List Entry) : Type 0 where

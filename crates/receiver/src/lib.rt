@@ -94,7 +94,7 @@ fn receive_in(
     requires { ⌜ Ready d (now plan) (length (now kc)) (now marks) × (length (now car) ≡ 4096) × (length (now flag) ≡ length (now kc)) × (length (now x) ≡ length (now kc)) ⌝ }
     ensures { λ r. ⌜ hears r (now (store .exit)) (now (buffer .exit)) ≡ receiveStep d (now (plan .entry)) state (now (store .entry)) (now (symbol .entry)) (now (buffer .entry)) ⌝ }
 {
-    let m = plan::number_at(plan, 6);
+    let m = records::number_at(plan, 6);
     match receiving::ready(
         d,
         plan,

@@ -24,7 +24,7 @@ use Rattle.rules.specs.Store.{fillerStore}
 use Rattle.rules.specs.Steps.{shortStore}
 use Rattle.rules.specs.Receive as receive
 use Rattle.rules.specs.Receive.{Receiver, Arrival, Receiving, Listening, listens, turnedAway, outCount, shortBuffer, receiverGround16, receiverGround17, ground20, receiveGrounds, heardState, heardStore, received, frameReceive, frameListen, hearStep, listenStep}
-use Rattle.plan.proofs.RecordLaws.{both-fine}
+use Rattle.records.proofs.RecordLaws.{both-fine}
 use Rattle.facts.proofs.Accepted.{when-fine}
 use Rattle.frame.proofs.Cells.{length-data}
 use Rattle.runs.specs.Run.{acceptedSteps, afterSteps, isReceived, Told, warming, handed, toldBy, receivings, heard, told, receiverAfter, FreshReceiver}

@@ -20,7 +20,7 @@ use Rattle.rules.specs.Grounds.{ground?, grounds1to15}
 use Rattle.rules.specs.Frame.{Frame, frameOf, cells, dataCount, Given, flush, symbol, dataList, filler, topData}
 use Rattle.rules.specs.Store.{freshStore}
 use Rattle.rules.specs.Steps.{Emitter, Send, Sending, Starting, starts, refused, ground16, shortStore, stateGround16, ground17, givenGrounds, sendGrounds, nextState, sentStore, sentSymbol, accepted, frameStep, startGrounds, frameStart, sendStep, startStep}
-use Rattle.plan.proofs.RecordLaws.{not-fine, both-fine}
+use Rattle.records.proofs.RecordLaws.{not-fine, both-fine}
 use Rattle.facts.proofs.Accepted.{when-fine}
 use Rattle.runs.specs.Run.{acceptedSteps, isSent, stateOf, input, sent, Fresh}
 

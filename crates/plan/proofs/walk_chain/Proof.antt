@@ -8,8 +8,9 @@ use native.Mathlib.Omega.{arith}
 use lib.ListN.{length}
 use Rattle.rules.specs.declared.Finding.the-variants.{Fine}
 use Rattle.rules.specs.Grounds.{badLength, recordGrounds}
-use Rattle.plan.specs.Walk.{entryOf, foundAt, Kept, Turned}
-use Rattle.plan.proofs.RecordLaws.{Sized, length-fine, fine-range}
+use Rattle.records.specs.Read.{entryOf, foundAt}
+use Rattle.records.proofs.RecordLaws.{Sized, length-fine, fine-range}
+use Rattle.plan.specs.Walk.{Kept, Turned}
 use Rattle.plan.proofs.ChainLaws.{index-is, kept-start, stopped, found-some, turned}
 use Rattle.plan.proofs.NotedLaws.{bad-length, good-length, left-fine, noted}
 use Rattle.plan.proofs.walk_chain.Statement.{statement}

@@ -1,8 +1,8 @@
--- `plan::bad_form` meets its contract: each return follows from the tests that led to it. Assumes nothing.
+-- `records::bad_form` meets its contract: each return follows from the tests that led to it. Assumes nothing.
 use borrow.Author.Tests.{ne-eqb}
 use Rattle.rules.specs.Grounds.{badForm}
-use Rattle.plan.proofs.bad_form.Statement.{statement}
-use Rattle.plan.proofs.bad_form.Tie as tie
+use Rattle.records.proofs.bad_form.Statement.{statement}
+use Rattle.records.proofs.bad_form.Tie as tie
 
 returns : tie.Need-returns
 unfolding badForm

@@ -1,8 +1,8 @@
--- `plan::bad_length` meets its contract: each return follows from the tests that led to it. Assumes nothing.
+-- `records::bad_length` meets its contract: each return follows from the tests that led to it. Assumes nothing.
 use borrow.Author.Tests.{lt-ltb, le-ltb}
 use Rattle.rules.specs.Grounds.{badLength}
-use Rattle.plan.proofs.bad_length.Statement.{statement}
-use Rattle.plan.proofs.bad_length.Tie as tie
+use Rattle.records.proofs.bad_length.Statement.{statement}
+use Rattle.records.proofs.bad_length.Tie as tie
 
 returns : tie.Need-returns
 unfolding badLength

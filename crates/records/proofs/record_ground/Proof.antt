@@ -1,12 +1,12 @@
--- `plan::record_ground` meets its contract: each return follows from the tests that led to it. Assumes nothing.
+-- `records::record_ground` meets its contract: each return follows from the tests that led to it. Assumes nothing.
 use borrow.Author.Needs.{needs}
 use mathlib.Core.Path.{_≡_, sym, _∙_}
 use mathlib.Core.Bool.{false}
 use borrow.Author.Tests.{eq-eqb, ne-eqb, le-leb, lt-leb}
 use Rattle.rules.specs.Grounds.{badForm, badNext, badNumbers, recordGrounds}
-use Rattle.plan.specs.Walk.{entryOf}
-use Rattle.plan.proofs.record_ground.Statement.{statement}
-use Rattle.plan.proofs.record_ground.Tie as tie
+use Rattle.records.specs.Read.{entryOf}
+use Rattle.records.proofs.record_ground.Statement.{statement}
+use Rattle.records.proofs.record_ground.Tie as tie
 
 -- the grounds that do not hold
 no-form : (c : tie.Else1) → badForm (entryOf (c .before .before .args .e)) ≡ false

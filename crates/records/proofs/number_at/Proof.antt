@@ -1,11 +1,11 @@
--- `plan::number_at` meets its contract. Assumes nothing.
+-- `records::number_at` meets its contract. Assumes nothing.
 use borrow.Author.Needs.{needs}
 use mathlib.Core.Path.{ap₂}
 use Prim.Native.Nat.{ℕ, _+_, _*_}
 use native.Mathlib.Omega.{arith}
 use Rattle.rules.specs.Plan.{number}
-use Rattle.plan.proofs.number_at.Statement.{statement}
-use Rattle.plan.proofs.number_at.Tie as tie
+use Rattle.records.proofs.number_at.Statement.{statement}
+use Rattle.records.proofs.number_at.Tie as tie
 
 shared-slice-read-octet : tie.Need-shared-slice-read-octet
 shared-slice-read-octet c = search needs

@@ -1,8 +1,8 @@
--- `plan::record_at` meets its contract. Assumes nothing.
+-- `records::record_at` meets its contract. Assumes nothing.
 use borrow.Author.Needs.{needs}
 use Rattle.rules.specs.Plan.{entry}
-use Rattle.plan.proofs.record_at.Statement.{statement}
-use Rattle.plan.proofs.record_at.Tie as tie
+use Rattle.records.proofs.record_at.Statement.{statement}
+use Rattle.records.proofs.record_at.Tie as tie
 
 mul-b : tie.Need-mul-b
 mul-b c = search needs

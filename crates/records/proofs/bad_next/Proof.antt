@@ -1,9 +1,9 @@
--- `plan::bad_next` meets its contract: each return follows from the tests that led to it. Assumes nothing.
+-- `records::bad_next` meets its contract: each return follows from the tests that led to it. Assumes nothing.
 use borrow.Author.Tests.{ne-eqb, lt-ltb, le-ltb}
 use Rattle.rules.specs.Plan.{leads}
 use Rattle.rules.specs.Grounds.{badNext}
-use Rattle.plan.proofs.bad_next.Statement.{statement}
-use Rattle.plan.proofs.bad_next.Tie as tie
+use Rattle.records.proofs.bad_next.Statement.{statement}
+use Rattle.records.proofs.bad_next.Tie as tie
 
 returns : tie.Need-returns
 unfolding badNext leads

@@ -1,8 +1,8 @@
--- `plan::bad_numbers` meets its contract: each return follows from the tests that led to it. Assumes nothing.
+-- `records::bad_numbers` meets its contract: each return follows from the tests that led to it. Assumes nothing.
 use borrow.Author.Tests.{ne-eqb, lt-ltb, le-ltb, le-leb, lt-leb}
 use Rattle.rules.specs.Grounds.{badNumbers}
-use Rattle.plan.proofs.bad_numbers.Statement.{statement}
-use Rattle.plan.proofs.bad_numbers.Tie as tie
+use Rattle.records.proofs.bad_numbers.Statement.{statement}
+use Rattle.records.proofs.bad_numbers.Tie as tie
 
 returns : tie.Need-returns
 unfolding badNumbers
