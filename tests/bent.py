@@ -104,6 +104,7 @@ WRONG = (
     ('for (int k = 0; k < SUBCARRIERS; k++) {\n        int want', 'for (int k = 1; k < SUBCARRIERS; k++) {\n        int want'),
     ('if (get(data, i) > LAST_DATA)', 'if (get(data, i) > LAST_DATA + 1)'),
     ('&& cell != FILLER_MARK', ''),
+    ('return b - a + 1;', 'return b - a;'),
     # a refused step that writes
     ('r = check_data(&p, (int)phase, data, data_len);',
      '{ r = check_data(&p, (int)phase, data, data_len); if (r.number == 19) write_row(&p, row, (int)phase, NULL, store); }'),

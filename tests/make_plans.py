@@ -106,6 +106,11 @@ ground and the place. `limit-09` to `limit-12` stand right at the limits that
 band of 440, a fifth of the span excluded, a twentieth of a band excluded;
 `limit-09-to-12` stands at all four.
 
+Widths are counted since request 02, so two neighbours of Plan A read otherwise
+than in 01: active 800 to 1239 is accepted with N_I 424 (there: 10), and excluding
+1181 to 1200 is refused by 10 (there: 9 at 1201). Just beyond the limits are now
+active 800 to 1238 (10) and excluding 1182 to 1201 (9 at 1202).
+
 | File | Bytes | L | M | Excluded ranges | Further pilots | Line |
 |---|---|---|---|---|---|---|
 """
