@@ -1,11 +1,12 @@
 #!/usr/bin/env bash
-# The host tests: libheadend.a against the second model, through include/headend.h. Needs rt, Python 3, gcc and valgrind.
-# Then the two C implementations of the benchmark, which must do the same work, and the tests themselves: wrong expectations and wrong
-# programs must be reported.
+# The host tests: libheadend.a against the second model, through include/headend.h; the two C implementations of the benchmark, which must
+# do the same work; and the tests themselves: wrong expectations and wrong programs must be reported. Needs rt, Python 3, gcc and valgrind.
+#
+#     tests/host.sh                             all of it
+#     tests/host.sh --without-library FOLDER    makes the cases in FOLDER and runs what needs no library; needs no rt
+#     tests/host.sh --library FOLDER            the rest, over those cases
 set -eu
 cd "$(dirname "$0")/.."
-work=$(mktemp -d)
-trap 'rm -rf "$work"' EXIT
 library=target/staticlib/libheadend.a
 warnings="-std=c11 -Wall -Wextra -Werror"
 sanitizers="-g -O1 -fsanitize=address,undefined -fno-sanitize-recover=all"
@@ -29,30 +30,6 @@ must_differ() {
     [ $status -eq 1 ] && grep -q '^host: DIFFERS' "$work/said" || fail "not noticed: $* ended with $status"
 }
 
-rt staticlib headend
-python3 tests/host.py "$work/all"
-python3 tests/host.py --small "$work/small"
-python3 tests/bent.py "$work"
-
-# The library has no data of its own that could be written, and calls nothing but the copying of memory.
-if nm "$library" | grep -E ' [BbDdCcGgSs] '; then fail "the library has data that can be written"; fi
-if nm -u "$library" | grep -E '^ +U ' | grep -vE ' (memcpy|memmove|memset|memcmp|bcmp|headend_[a-z_]+)$'; then
-    fail "the library calls something else"
-fi
-
-echo "the library, with the sanitizers"
-gcc $warnings $sanitizers -Iinclude tests/host.c "$library" -o "$work/host-san"
-"$work/host-san" "$work/all"
-echo "the library, under valgrind"
-gcc $warnings -g -O1 -Iinclude tests/host.c "$library" -o "$work/host"
-valgrind -q --error-exitcode=9 "$work/host" "$work/small"
-"$work/host" --stack "$work/small"
-
-echo "the example"
-gcc $warnings -O2 -Iinclude examples/link.c "$library" -o "$work/link"
-"$work/link" plans/plan-a.plan
-if "$work/link" plans/refused-14.plan 2> /dev/null; then fail "the example took a refused plan"; fi
-
 # builds KIND FLAGS: the host program over another implementation.
 builds() {
     local kind=$1
@@ -60,22 +37,68 @@ builds() {
     gcc $warnings "$@" $(names $kind) -Iinclude tests/host.c bench/$kind.c -o "$work/$kind"
 }
 
-for kind in plain best; do
-    echo "$kind C, with the sanitizers and without"
-    builds $kind $sanitizers
-    "$work/$kind" "$work/small"
-    builds $kind -O3
-    "$work/$kind" "$work/all"
-done
+# The cases, the two C implementations, and wrong programs.
+without_library() {
+    python3 tests/host.py "$work/all"
+    python3 tests/host.py --small "$work/small"
+    python3 tests/bent.py "$work"
+    for kind in plain best; do
+        echo "$kind C, with the sanitizers and without"
+        builds $kind $sanitizers
+        "$work/$kind" "$work/small"
+        builds $kind -O3
+        "$work/$kind" "$work/all"
+    done
+    echo "wrong programs"
+    gcc $warnings $(names plain) -Iinclude -c tests/host.c -o "$work/host.o"
+    for program in "$work"/wrong-*.c; do
+        gcc -w -Ibench "$program" "$work/host.o" -o "$work/wrong"
+        must_differ "$work/wrong" "$work/small"
+    done
+}
 
-echo "wrong expectations and wrong programs"
-"$work/host" "$work/straight.cases"
-for cases in "$work"/bent-*.cases; do
-    must_differ "$work/host" "$cases"
-done
-gcc $warnings $(names plain) -Iinclude -c tests/host.c -o "$work/host.o"
-for program in "$work"/wrong-*.c; do
-    gcc -w -Ibench "$program" "$work/host.o" -o "$work/wrong"
-    must_differ "$work/wrong" "$work/small"
-done
-echo "host.sh: all right"
+# The library, the example, and wrong expectations.
+with_library() {
+    rt staticlib headend
+    # The library has no data of its own that could be written, and calls nothing but the copying of memory.
+    if nm "$library" | grep -E ' [BbDdCcGgSs] '; then fail "the library has data that can be written"; fi
+    if nm -u "$library" | grep -E '^ +U ' | grep -vE ' (memcpy|memmove|memset|memcmp|bcmp|headend_[a-z_]+)$'; then
+        fail "the library calls something else"
+    fi
+    echo "the library, with the sanitizers"
+    gcc $warnings $sanitizers -Iinclude tests/host.c "$library" -o "$work/host-san"
+    "$work/host-san" "$work/all"
+    echo "the library, under valgrind"
+    gcc $warnings -g -O1 -Iinclude tests/host.c "$library" -o "$work/host"
+    valgrind -q --error-exitcode=9 "$work/host" "$work/small"
+    "$work/host" --stack "$work/small"
+    echo "the example"
+    gcc $warnings -O2 -Iinclude examples/link.c "$library" -o "$work/link"
+    "$work/link" plans/plan-a.plan
+    if "$work/link" plans/refused-14.plan 2> /dev/null; then fail "the example took a refused plan"; fi
+    echo "wrong expectations"
+    "$work/host" "$work/straight.cases"
+    for cases in "$work"/bent-*.cases; do
+        must_differ "$work/host" "$cases"
+    done
+    echo "host.sh: all right"
+}
+
+case ${1:-} in
+    --without-library)
+        work=$2
+        mkdir -p "$work"
+        without_library
+        ;;
+    --library)
+        work=$2
+        with_library
+        ;;
+    '')
+        work=$(mktemp -d)
+        trap 'rm -rf "$work"' EXIT
+        without_library
+        with_library
+        ;;
+    *) fail "unknown word: $1" ;;
+esac

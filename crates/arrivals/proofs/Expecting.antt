@@ -24,8 +24,8 @@ use Rattle.rules.specs.Receive.{wrongCell}
 use Rattle.roles.proofs.Fitting.{cellFits, fits-role}
 use Rattle.marks.specs.Marked.{Marked}
 use Rattle.delay.proofs.Stride.{Upto, Gap}
-use Rattle.cells.specs.Tied.{Tied, Turning}
-use Rattle.cells.proofs.Plans.{tied-of, turning-of}
+use Rattle.spots.specs.Tied.{Tied, Turning}
+use Rattle.spots.proofs.Plans.{tied-of, turning-of}
 use Rattle.arrivals.specs.Expected.{allowed, allowedAt, scatteredMark, expected}
 
 -- ---- the loop that puts the pilots among the marks

@@ -10,7 +10,7 @@ ghost use Rattle.rules.specs.Plan.{planOf};
 ghost use Rattle.rules.specs.Fits.{Fits};
 ghost use Rattle.rules.specs.Frame.{frameOf, cells, spot, lineCells};
 ghost use Rattle.rules.specs.Receive.{wrongCell};
-ghost use Rattle.judge.specs.Studied.{Studied};
+ghost use Rattle.verdicts.specs.Studied.{Studied};
 ghost use Rattle.arrivals.specs.Expected.{allowed, allowedAt, scatteredMark, expected};
 use counting::Found;
 use counting::wide;

@@ -3,7 +3,7 @@
 ghost use mathlib.Core.Path.{_≡_};
 ghost use mathlib.Core.Bool.{false};
 ghost use Prim.Native.Nat.{_+_, _*_, _/_, _%_, _≤_, _<_};
-ghost use lib.ListN.{length, getD, replicate};
+ghost use lib.ListN.{length, getD, replicate, take};
 ghost use lib.Seq.{sets};
 ghost use Rattle.counting.specs.Search.{tabulate};
 ghost use Rattle.bytecells.specs.Octets.{cellsOf, bytesOf, odd, Octets, Whole};
@@ -94,6 +94,19 @@ pub fn read_cells(b: &[u8], cells: &mut [u16])
     octets(b);
     read_pairs(b, cells);
     swap_cells(cells);
+}
+
+// Reads the cells of the bytes into the first places, if there are places enough for all of them; and how many cells there are.
+pub fn read_first(b: &[u8], cells: &mut [u16]) -> usize
+    requires { ⌜ Whole (now b) ⌝ }
+    ensures number { λ r. ⌜ r ≡ length (cellsOf (now (b .entry))) ⌝ }
+    ensures read { λ r. ⌜ (r ≤ length (now (cells .entry)) → take r (now (cells .exit)) ≡ cellsOf (now (b .entry))) ⌝ }
+{
+    let n = b.len() / 2;
+    if n <= cells.len() {
+        read_cells(b, &mut cells[..n]);
+    }
+    n
 }
 
 // Writes the cells x as bytes, from cell `at` on.

@@ -7,25 +7,22 @@ use native.Mathlib.Omega.{arith}
 use lib.ListN.{length}
 use Rattle.counting.specs.Search.{pick}
 use Rattle.rules.specs.declared.Device.{Device}
-use Rattle.rules.specs.declared.Finding.the-variants.{Fine}
 use Rattle.rules.specs.declared.StartAnswer.{StartAnswer}
 use Rattle.rules.specs.declared.ListenAnswer.{ListenAnswer}
 use Rattle.rules.specs.declared.StartAnswer.the-variants as a-start
 use Rattle.rules.specs.declared.ListenAnswer.the-variants as a-listen
-use Rattle.rules.specs.Frame.{Frame, cells}
-use Rattle.rules.specs.Steps.{Starting, starts, startGrounds, startStep}
+use Rattle.rules.specs.Steps.{Starting, starts, startStep}
 use Rattle.rules.specs.Receive.{Listening, listens, listenStep}
-use Rattle.fresh.proofs.Starts.{left-store}
 use Rattle.bytecells.specs.Octets.{cellsOf, bytesOf, odd, Whole}
 use Rattle.bytecells.specs.ByteSteps.{startedBytes, listenedBytes, startBytes, listenBytes}
 use Rattle.bytecells.proofs.OctetLaws.{whole-length}
 
--- ---- what grounds 16 and 17 leave: the bytes of m rows of n cells lie within the store
+-- ---- the bytes of m rows of n cells lie within a store that has their cells
 
-pub left-bytes : (F : Frame) (j : ℕ) (b : List ℕ) (m n : ℕ) → Whole b → m ≡ F .depth → n ≡ cells F → Fine ≡ startGrounds F j (cellsOf b) → 2 * (m * n) ≤ length b
-left-bytes F j b m n w em en ok =
-    let same : m * n ≡ F .depth * cells F = λ i. em i * en i in
-    omega (arith, same, left-store F j (cellsOf b) ok, whole-length b w)
+pub rows-bytes : (b : List ℕ) (m m′ n n′ : ℕ) → Whole b → m ≡ m′ → n ≡ n′ → m′ * n′ ≤ length (cellsOf b) → 2 * (m * n) ≤ length b
+rows-bytes b m m′ n n′ w em en h =
+    let same : m * n ≡ m′ * n′ = λ i. em i * en i in
+    omega (arith, same, h, whole-length b w)
 
 -- ---- the same answer, and a store that is the cells c as bytes
 

@@ -3,27 +3,24 @@
 // leaves as it was.
 ghost use mathlib.Core.Path.{_≡_};
 ghost use mathlib.Core.Bool.{false, _||_};
-ghost use Prim.Native.Nat.{ℕ, _-_, _*_, _%_, _≤_, _<_};
-ghost use lib.ListN.{length, getD};
+ghost use Prim.Native.Nat.{_-_, _*_, _%_, _≤_, _<_};
+ghost use lib.ListN.{length};
 ghost use lib.Seq.{sets};
 ghost use Rattle.counting.specs.Search.{count, isZero};
 ghost use Rattle.rules.specs.Device.{khz50};
 ghost use Rattle.rules.specs.Fits.{Fits};
 ghost use Rattle.rules.specs.Plan.{planOf};
-ghost use Rattle.rules.specs.Frame.{frameOf, cells, spot, lineCells};
+ghost use Rattle.rules.specs.Frame.{frameOf, cells, lineCells};
 ghost use Rattle.rules.specs.Store.{putRow, delayed};
 ghost use Rattle.rules.specs.Receive.{hears, outPhase, received, receiveStep};
-ghost use Rattle.fill.specs.Flags.{Flagged, takenData};
+ghost use Rattle.fill.specs.Flags.{takenData};
 ghost use Rattle.bytecells.specs.Octets.{cellsOf, bytesOf, odd, Whole};
 ghost use Rattle.bytecells.specs.ByteSteps.{heardBytes, receiveBytes};
-ghost use Rattle.steps.specs.Ready.{Ready};
-ghost use Rattle.receiving.specs.Admitted.{Admitted};
-use counting::Found;
-use rules::CountAnswer;
+ghost use Rattle.receivegrounds.specs.Admitted.{Admitted, Prepared, Spots};
+use receivegrounds::Admission;
 use rules::Device;
 use rules::ReceiveAnswer;
 use rules::ReceiverState;
-use rules::Verdict;
 
 // Whether a lent cell buffer has odd length (ground 21).
 fn some_halved(store: &[u8], symbol: &[u8], buffer: &[u8]) -> bool
@@ -49,7 +46,7 @@ fn take_in(
     store: &mut [u8],
     x: &mut [u16],
 )
-    requires { ⌜ Fits d × Whole (now store) × (row < m) × (m ≤ 4096) × (length (now y) ≡ d .subcarriers) × (length (now x) ≡ cells (frameOf d (planOf (now plan)))) × (length (now kc) ≡ length (now x)) × (2 * (m * length (now x)) ≤ length (now store)) × ((p : ℕ) → p < length (now x) → getD (now kc) p 0 ≡ spot (frameOf d (planOf (now plan))) p) ⌝ }
+    requires { ⌜ Fits d × Whole (now store) × (row < m) × (m ≤ 4096) × (length (now y) ≡ d .subcarriers) × (length (now x) ≡ cells (frameOf d (planOf (now plan)))) × (length (now x) ≤ length (now kc)) × (2 * (m * length (now x)) ≤ length (now store)) × Spots (frameOf d (planOf (now plan))) (now kc) ⌝ }
     ensures { λ _. ⌜ now (store .exit) ≡ bytesOf (putRow (cells (frameOf d (planOf (now (plan .entry))))) (cellsOf (now (store .entry))) row (lineCells (frameOf d (planOf (now (plan .entry)))) (now (y .entry)))) ⌝ }
 {
     arrivals::line_cells(d, plan, kc, y, x);
@@ -70,83 +67,39 @@ fn hand_out(
     ensures { λ _. ⌜ now (buffer .exit) ≡ bytesOf (sets (cellsOf (now (buffer .entry))) 0 (takenData (now (flag .entry)) (delayed m (length (now (x .entry))) (λ p. m - 1 - p % m) (cellsOf (now (store .entry))) row))) ⌝ }
 {
     bytedelay::gather(m, row, store, x);
-    fill::take_data(x, flag, given);
+    taking::take_data(x, flag, given);
     bytecells::write_cells(buffer, 0, given);
 }
 
-// A step that no ground refuses, with nd data cells to hand out: kc are the subcarriers of the cells, flag the flags of the placeholders of
-// the input symbol that is handed out, y the arriving cells, which are used up, and x is lent.
+// A step that no ground refuses, with nd data cells to hand out: kc are the subcarriers of the n cells, flag the flags of the placeholders
+// of the input symbol that is handed out, y the arriving cells.
 fn hear(
     d: Device,
     plan: &[u8],
     m: usize,
+    n: usize,
     nd: u32,
     state: ReceiverState,
     kc: &[u16],
     flag: &[u8],
-    y: &mut [u16],
+    y: &[u16],
     store: &mut [u8],
-    x: &mut [u16],
     buffer: &mut [u8],
 ) -> ReceiveAnswer
-    requires { ⌜ Fits d × Whole (now store) × Whole (now buffer) × Admitted (frameOf d (planOf (now plan))) (record { state = state; store = cellsOf (now store) }) (record { symbol = now y; buffer = cellsOf (now buffer) }) m (length (now x)) nd × (length (now kc) ≡ length (now x)) × (length (now flag) ≡ length (now x)) × ((p : ℕ) → p < length (now x) → getD (now kc) p 0 ≡ spot (frameOf d (planOf (now plan))) p) × Flagged (frameOf d (planOf (now plan))) (outPhase (frameOf d (planOf (now plan))) (state .phase)) (now flag) ⌝ }
+    requires { ⌜ Fits d × Whole (now store) × Whole (now buffer) × Admitted (frameOf d (planOf (now plan))) (record { state = state; store = cellsOf (now store) }) (record { symbol = now y; buffer = cellsOf (now buffer) }) m n nd × Prepared (frameOf d (planOf (now plan))) (outPhase (frameOf d (planOf (now plan))) (state .phase)) (now kc) (now flag) ⌝ }
     ensures { λ r. ⌜ hears r (now (store .exit)) (now (buffer .exit)) ≡ heardBytes (received (frameOf d (planOf (now (plan .entry)))) (record { state = state; store = cellsOf (now (store .entry)) }) (record { symbol = now (y .entry); buffer = cellsOf (now (buffer .entry)) })) ⌝ }
 {
     let row = state.row as usize;
-    take_in(d, plan, m, row, kc, y, store, x);
+    let mut given = [0u16; 4096];
+    take_in(d, plan, m, row, kc, y, store, &mut given[..n]);
     let next = receiving::next_state(m, state);
     if receiving::warms(state.heard, m) {
         return ReceiveAnswer::Warming(next);
     }
-    let n = nd as usize;
-    hand_out(m, row, store, flag, x, &mut y[..n], buffer);
+    let k = nd as usize;
+    let mut x = [0u16; 4096];
+    hand_out(m, row, store, flag, &mut x[..n], &mut given[..k], buffer);
     ReceiveAnswer::Data(next, nd)
-}
-
-// A receive step under an accepted plan, whose marks are used up, over bytes of whole cells. The arrays are lent: car, the subcarriers by
-// rank, and y, the arriving cells, have 4,096 places; kc, the subcarriers by cell, flag, the flags of the placeholders, and x, the cells of a
-// symbol, have N_I.
-fn receive_in(
-    d: Device,
-    plan: &[u8],
-    marks: &mut [u16; 4096],
-    state: ReceiverState,
-    store: &mut [u8],
-    symbol: &[u8],
-    buffer: &mut [u8],
-    car: &mut [u16],
-    kc: &mut [u16],
-    flag: &mut [u8],
-    y: &mut [u16],
-    x: &mut [u16],
-) -> ReceiveAnswer
-    requires { ⌜ Ready d (now plan) (length (now kc)) (now marks) × (length (now car) ≡ 4096) × (length (now flag) ≡ length (now kc)) × (length (now x) ≡ length (now kc)) × (length (now y) ≡ d .subcarriers) × Whole (now store) × Whole (now symbol) × Whole (now buffer) ⌝ }
-    ensures { λ r. ⌜ hears r (now (store .exit)) (now (buffer .exit)) ≡ heardBytes (receiveStep d (now (plan .entry)) state (cellsOf (now (store .entry))) (cellsOf (now (symbol .entry))) (cellsOf (now (buffer .entry)))) ⌝ }
-{
-    let m = records::number_at(plan, 6);
-    match receiving::ready(
-        d,
-        plan,
-        marks,
-        m,
-        state,
-        store.len() / 2,
-        symbol.len() / 2,
-        buffer.len() / 2,
-        car,
-        kc,
-        flag,
-    ) {
-        CountAnswer::Refused(g, place) => ReceiveAnswer::Refused(g, place, state),
-        CountAnswer::Count(nd) => {
-            let j = state.phase as usize;
-            bytecells::read_cells(symbol, y);
-            if let Found::At(k) = arrivals::wrong_cell(d, plan, marks, j, y) {
-                return ReceiveAnswer::Refused(20, k, state);
-            }
-            hear(d, plan, m, nd, state, kc, flag, y, store, x, buffer)
-        }
-    }
 }
 
 // A receive step over bytes of whole cells.
@@ -161,30 +114,24 @@ fn receive_whole(
     ensures { λ r. ⌜ hears r (now (store .exit)) (now (buffer .exit)) ≡ heardBytes (receiveStep khz50 (now (plan .entry)) state (cellsOf (now (store .entry))) (cellsOf (now (symbol .entry))) (cellsOf (now (buffer .entry)))) ⌝ }
 {
     let d = rules::khz50_device();
-    let mut marks = [0u16; 4096];
-    match judge::study(d, plan, &mut marks) {
-        Verdict::Refused(g, place) => ReceiveAnswer::Refused(g, place, state),
-        Verdict::Accepted(n) => {
-            let ni = n as usize;
-            let mut car = [0u16; 4096];
-            let mut kc = [0u16; 4096];
-            let mut flag = [0u8; 4096];
-            let mut y = [0u16; 4096];
-            let mut x = [0u16; 4096];
-            receive_in(
-                d,
-                plan,
-                &mut marks,
-                state,
-                store,
-                symbol,
-                buffer,
-                &mut car,
-                &mut kc[..ni],
-                &mut flag[..ni],
-                &mut y,
-                &mut x[..ni],
-            )
+    let mut y = [0u16; 4096];
+    let mut kc = [0u16; 4096];
+    let mut flag = [0u8; 4096];
+    let width = bytecells::read_first(symbol, &mut y);
+    match receivegrounds::admit(
+        d,
+        plan,
+        state,
+        store.len() / 2,
+        width,
+        buffer.len() / 2,
+        &y,
+        &mut kc,
+        &mut flag,
+    ) {
+        Admission::Refused(g, place) => ReceiveAnswer::Refused(g, place, state),
+        Admission::Admitted(m, n, nd) => {
+            hear(d, plan, m, n, nd, state, &kc, &flag, &y, store, buffer)
         }
     }
 }

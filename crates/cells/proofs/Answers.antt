@@ -1,5 +1,5 @@
 -- The answer of `data_count` from the verdict and ground 16. Assumes nothing.
-use mathlib.Core.Path.{_≡_, sym, ap, _∙_}
+use mathlib.Core.Path.{_≡_, sym, ap}
 use mathlib.Core.Bool.{Bool}
 use mathlib.Core.List.{List}
 use Prim.Native.Nat.{ℕ, _≤_, _<_}
@@ -8,16 +8,14 @@ use Rattle.counting.specs.Search.{when}
 use Rattle.rules.specs.declared.Device.{Device}
 use Rattle.rules.specs.declared.Finding.{Finding}
 use Rattle.rules.specs.declared.Finding.the-variants.{Fine, Ground}
-use Rattle.rules.specs.declared.Verdict.{Verdict}
 use Rattle.rules.specs.declared.Verdict.the-variants.{Accepted, Refused}
 use Rattle.rules.specs.declared.CountAnswer.{CountAnswer}
 use Rattle.rules.specs.declared.CountAnswer.the-variants as a-count
 use Rattle.rules.specs.Plan.{planOf}
-use Rattle.rules.specs.Roles.{rankedCount}
-use Rattle.rules.specs.Grounds.{ground?, answer, verdict}
-use Rattle.rules.specs.Frame.{Frame, frameOf, cells, dataCount}
+use Rattle.rules.specs.Grounds.{ground?, verdict}
+use Rattle.rules.specs.Frame.{Frame, frameOf, dataCount}
 use Rattle.rules.specs.Steps.{ground16, frameCount, dataCountAnswer}
-use Rattle.judge.proofs.Verdicts.{no-ground, first-ground}
+use Rattle.verdicts.proofs.Verdicts.{no-ground, first-ground}
 
 -- ground 16, and the count
 module _ (F : Frame) (j : ℕ) where
@@ -32,25 +30,15 @@ module _ (F : Frame) (j : ℕ) where
   unfolding frameCount ground16 after16
   count-is l = sym (ap after16 (lt-leb (F .phases) j l))
 
-countOf : Verdict → ℕ
-countOf (Accepted n) = n
-countOf (Refused g place) = 0
+module _ (d : Device) (s : List ℕ) (j : ℕ) where
+  answered : Finding → CountAnswer
+  answered f = elim f [ Fine ↦ frameCount (frameOf d (planOf s)) j | Ground n place ↦ a-count.Refused n place ]
 
-module _ (d : Device) (s : List ℕ) where
-  -- an accepted plan is accepted with N_I
-  pub accepted-cells : (n : ℕ) → Accepted n ≡ verdict d s → n ≡ cells (frameOf d (planOf s))
-  unfolding countOf verdict cells frameOf rankedCount
-  accepted-cells n e = ap countOf (e ∙ ap (λ (f : Finding). answer f (rankedCount d (planOf s))) (no-ground d s n e))
+  -- refused as the verdict is, else left to ground 16
+  pub count-refused : (g place : ℕ) → Refused g place ≡ verdict d s → a-count.Refused g place ≡ dataCountAnswer d s j
+  unfolding dataCountAnswer answered
+  count-refused g place e = sym (ap answered (first-ground d s g place e))
 
-  module _ (j : ℕ) where
-    answered : Finding → CountAnswer
-    answered f = elim f [ Fine ↦ frameCount (frameOf d (planOf s)) j | Ground n place ↦ a-count.Refused n place ]
-
-    -- refused as the verdict is, else left to ground 16
-    pub count-refused : (g place : ℕ) → Refused g place ≡ verdict d s → a-count.Refused g place ≡ dataCountAnswer d s j
-    unfolding dataCountAnswer answered
-    count-refused g place e = sym (ap answered (first-ground d s g place e))
-
-    pub count-left : (n : ℕ) → Accepted n ≡ verdict d s → frameCount (frameOf d (planOf s)) j ≡ dataCountAnswer d s j
-    unfolding dataCountAnswer answered
-    count-left n e = sym (ap answered (no-ground d s n e))
+  pub count-left : (n : ℕ) → Accepted n ≡ verdict d s → frameCount (frameOf d (planOf s)) j ≡ dataCountAnswer d s j
+  unfolding dataCountAnswer answered
+  count-left n e = sym (ap answered (no-ground d s n e))

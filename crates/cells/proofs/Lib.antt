@@ -1,4 +1,1 @@
-pub mod Frames
-pub mod Plans
-pub mod Parts
 pub mod Answers

@@ -1,160 +1,102 @@
-// What a step of each number is given: how many data cells, which of them spoiled, phase, row, and how much of store and symbol. The list
-// of the numbers stands in tests/emits.py.
+// What a step of each number is given: phase, row, how much of data, store and symbol, and which data cells are spoiled. The list of the
+// numbers stands in tests/emits.py.
+use rules::EmitterState;
+use trials::Sending;
 
 // The cells of the store, and of a symbol.
-const STORE: usize = 120000;
+pub(crate) const STORE: usize = 120000;
 
-const SYMBOL: usize = 4096;
+pub(crate) const SYMBOL: usize = 4096;
 
-// Whether a step emits; the others flush.
-pub(crate) fn emits(kind: u8) -> bool {
-    if kind == 0 {
-        return true;
-    }
-    if kind == 7 {
-        return true;
-    }
-    if kind == 10 {
-        return true;
-    }
-    if kind == 17 {
-        return true;
-    }
-    if 12 <= kind {
-        return kind <= 15;
-    }
-    if kind < 2 {
-        return false;
-    }
-    kind <= 5
-}
-
-// How many data cells a step is given.
-pub(crate) fn count_of(kind: u8, nd: usize) -> usize {
-    if kind == 12 {
-        return 0;
-    }
-    if nd == 0 {
-        return 0;
-    }
-    if 4096 <= nd {
-        return 4096;
-    }
-    if kind == 2 {
-        return nd - 1;
-    }
-    if kind == 13 {
-        return nd - 1;
-    }
-    if kind == 14 {
-        return nd - 1;
-    }
-    if kind == 15 {
-        return nd - 1;
-    }
-    if kind == 3 {
-        return nd + 1;
-    }
-    nd
-}
-
-// The phase that a step is given.
-pub(crate) fn phase_of(kind: u8, phase: u32) -> u32 {
-    if kind == 5 {
-        return std::num::wrapping_add_u32(phase, 128);
-    }
-    if kind == 11 {
-        return 4294967295;
-    }
-    phase
-}
-
-// The row that a step is given; M is a plan's byte 7.
-pub(crate) fn row_of(kind: u8, row: u32, m: u32) -> u32 {
-    if kind == 16 {
-        return m;
-    }
-    if kind == 6 {
-        return std::num::wrapping_add_u32(row, 32);
-    }
-    if kind == 12 {
-        return std::num::wrapping_add_u32(row, 32);
-    }
-    if kind == 11 {
-        return 4294967295;
-    }
-    row
-}
-
-// How many cells of the store a step is lent; `need` is M times N_I.
-pub(crate) fn store_of(kind: u8, need: usize) -> usize {
-    if need == 0 {
-        return 0;
-    }
-    if STORE < need {
-        return STORE;
-    }
-    if kind == 7 {
-        return need - 1;
-    }
-    if kind == 14 {
-        return need - 1;
-    }
-    if kind == 10 {
-        return need;
-    }
-    STORE
-}
-
-// How many cells of the symbol a step is lent.
-pub(crate) fn symbol_of(kind: u8) -> usize {
-    if kind == 8 {
-        return 4095;
-    }
-    if kind == 12 {
-        return 4095;
-    }
-    if kind == 15 {
-        return 4095;
-    }
-    if kind == 9 {
-        return 4097;
-    }
-    SYMBOL
-}
-
-// Where a step has its first cell that is no data; n where it has none.
-pub(crate) fn above_at(kind: u8, n: usize) -> usize {
-    if kind == 4 {
-        return n / 2;
-    }
-    if kind == 13 {
-        return 0;
-    }
-    if kind == 15 {
-        return 0;
-    }
-    if kind == 17 {
-        return 0;
-    }
-    n
-}
-
-// What stands there.
-pub(crate) fn above(kind: u8) -> u16 {
-    if 15 <= kind {
-        return 32768;
-    }
-    16384
-}
-
-// Where a step has a cell of 65535; n where it has none.
-pub(crate) fn last_at(kind: u8, n: usize) -> usize {
+// One less, 0 of 0.
+fn less(n: usize) -> usize {
     if n == 0 {
-        return n;
+        return 0;
     }
-    if kind == 4 {
-        return n - 1;
+    n - 1
+}
+
+// What an emit of a number is given beside the right one, with N_D cells; need is M times N_I.
+fn emitting(kind: u8, right: Sending, need: usize) -> Sending {
+    let mut given = right;
+    match kind {
+        2 | 13 => given.count = less(right.count),
+        3 => given.count = std::num::wrapping_add_usize(right.count, 1),
+        5 => given.phase = std::num::wrapping_add_u32(right.phase, 128),
+        7 => given.store = less(need),
+        10 => given.store = need,
+        12 => {
+            given.count = 0;
+            given.row = std::num::wrapping_add_u32(right.row, 32);
+            given.symbol = 4095;
+        }
+        14 => {
+            given.count = less(right.count);
+            given.store = less(need);
+        }
+        15 => {
+            given.count = less(right.count);
+            given.symbol = 4095;
+        }
+        _ => {}
     }
-    n
+    given
+}
+
+// What a flush of a number is given beside the right one; m is M.
+fn flushing(kind: u8, right: Sending, m: u32) -> Sending {
+    let mut given = right;
+    given.flush = true;
+    given.count = 0;
+    match kind {
+        6 => given.row = std::num::wrapping_add_u32(right.row, 32),
+        8 => given.symbol = 4095,
+        9 => given.symbol = 4097,
+        11 => {
+            given.phase = 4294967295;
+            given.row = 4294967295;
+        }
+        16 => given.row = m,
+        _ => {}
+    }
+    given
+}
+
+// What a step of a number is given; m is M, and nd is N_D. The numbers from 18 on are flushes.
+pub(crate) fn sending(kind: u8, state: EmitterState, m: u32, nd: usize, need: usize) -> Sending {
+    let right = Sending {
+        flush: false,
+        phase: state.phase,
+        row: state.row,
+        count: nd,
+        store: STORE,
+        symbol: SYMBOL,
+    };
+    match kind {
+        1 | 6 | 8 | 9 | 11 | 16 | 18..=255 => flushing(kind, right, m),
+        _ => emitting(kind, right, need),
+    }
+}
+
+// Fills the n cells that a step is given, spoils those that it names, and gives the generator's last number.
+pub(crate) fn filled(x: u32, kind: u8, n: usize, cells: &mut [u16]) -> u32 {
+    let last = samples::draw(x, n, cells);
+    let mut place = SYMBOL;
+    let mut cell: u16 = 16384;
+    let mut end = SYMBOL;
+    match kind {
+        4 => {
+            place = n / 2;
+            end = less(n);
+        }
+        13 => place = 0,
+        15 | 17 => {
+            place = 0;
+            cell = 32768;
+        }
+        _ => {}
+    }
+    samples::swap(cells, place, cell);
+    samples::swap(cells, end, 65535);
+    last
 }

@@ -1,86 +1,17 @@
 // Grounds 9 to 15, from the runs of excluded subcarriers and the marks of a plan that passed 1 to 8. The plan's bytes are not
 // read here: they are lent so that the contracts can speak of the plan.
 ghost use mathlib.Core.Path.{_≡_};
-ghost use lib.Dec.{eqb};
-ghost use lib.ListN.{getD};
-ghost use Prim.Native.Nat.{_+_, _-_, _≤_, _<_};
-ghost use Rattle.counting.specs.Search.{bit, count};
+ghost use Prim.Native.Nat.{_<_};
 ghost use Rattle.rules.specs.Plan.{planOf};
-ghost use Rattle.rules.specs.Bands.{excluded};
 ghost use Rattle.rules.specs.Roles.{rankedCount};
-ghost use Rattle.rules.specs.Grounds.{muchExcluded, answer};
+ghost use Rattle.rules.specs.Grounds.{answer};
 ghost use Rattle.rules.specs.Fits.{Fits};
 ghost use Rattle.bands.specs.BandList.{EdgeRuns, BandList};
 ghost use Rattle.marks.specs.Marked.{Marked};
-ghost use Rattle.grounds.specs.Order.{isZero, ground15, grounds13to15, grounds11to15, grounds9to15};
+ghost use Rattle.grounds.specs.Order.{grounds13to15, grounds11to15, grounds9to15};
 use counting::Found;
-use counting::wide;
 use rules::Device;
 use rules::Verdict;
-
-// A count of zeros with one cell more. The counter has sixteen bits so that the loop over 4,096 cells is vectorised.
-fn one_more(x: u16, n: u16) -> u16
-    requires { ⌜ n ≤ 4096 ⌝ }
-    ensures { λ r. ⌜ r ≡ n + bit (eqb x 0) ⌝ }
-{
-    if x == 0 {
-        return n + 1;
-    }
-    n
-}
-
-// How many of the first `size` cells are 0.
-fn zeros(m: &[u16; 4096], size: usize) -> usize
-    requires { ⌜ size ≤ 4096 ⌝ }
-    ensures { λ r. ⌜ (r ≡ count (isZero (now (m .entry))) size) × (r ≤ 4096) ⌝ }
-{
-    let mut n: u16 = 0;
-    let mut k: usize = 0;
-    while k < size {
-        n = one_more(m[k], n);
-        k += 1;
-    }
-    n as usize
-}
-
-// How many subcarriers are excluded between the first run and the last, which touch the ends.
-fn inner(d: Device, plan: &[u8], lo: &[u16], hi: &[u16], n: usize) -> usize
-    requires { ⌜ Fits d × EdgeRuns d (planOf (now plan)) (now lo) (now hi) n ⌝ }
-    ensures { λ r. ⌜ (r + count (excluded (planOf (now (plan .entry)))) (getD (now (hi .entry)) 0 0) ≡ count (excluded (planOf (now (plan .entry)))) (getD (now (lo .entry)) (n - 1) 0)) × (r ≤ 4096) ⌝ }
-{
-    let mut sum: usize = 0;
-    let mut i: usize = 1;
-    while i + 1 < n {
-        let e = wide(lo[i]);
-        let u = wide(hi[i]);
-        sum += u - e;
-        i += 1;
-    }
-    sum
-}
-
-// Ground 11.
-fn much(d: Device, plan: &[u8], lo: &[u16], hi: &[u16], n: usize) -> bool
-    requires { ⌜ Fits d × EdgeRuns d (planOf (now plan)) (now lo) (now hi) n ⌝ }
-    ensures { λ r. ⌜ r ≡ muchExcluded d (planOf (now (plan .entry))) ⌝ }
-{
-    let g = inner(d, plan, lo, hi, n);
-    let first = wide(hi[0]);
-    let end = wide(lo[n - 1]);
-    limits::width_of(first, end - 1) < 5 * g
-}
-
-// Ground 15, and N_I.
-fn ground_15(d: Device, plan: &[u8], m: &[u16; 4096]) -> Verdict
-    requires { ⌜ Fits d × Marked d (planOf (now plan)) (now m) ⌝ }
-    ensures { λ r. ⌜ r ≡ answer (ground15 d (planOf (now (plan .entry)))) (rankedCount d (planOf (now (plan .entry)))) ⌝ }
-{
-    let ni = zeros(m, d.subcarriers);
-    if d.rankedMax < ni {
-        return Verdict::Refused(15, 0);
-    }
-    Verdict::Accepted(ni as u32)
-}
 
 // Grounds 13 to 15.
 fn grounds_13_to_15(
@@ -96,7 +27,7 @@ fn grounds_13_to_15(
     requires { ⌜ Fits d × Marked d (planOf (now plan)) (now m) × BandList d (planOf (now plan)) (now a) (now b) (now c) (now x) bands × (bands < 256) ⌝ }
     ensures { λ r. ⌜ r ≡ answer (grounds13to15 d (planOf (now (plan .entry)))) (rankedCount d (planOf (now (plan .entry)))) ⌝ }
 {
-    if let Found::At(k) = limits::first_window(
+    if let Found::At(k) = windows::first_window(
         d,
         plan,
         a,
@@ -109,7 +40,7 @@ fn grounds_13_to_15(
     ) {
         return Verdict::Refused(13, k);
     }
-    if let Found::At(k) = limits::first_window(
+    if let Found::At(k) = windows::first_window(
         d,
         plan,
         a,
@@ -122,7 +53,7 @@ fn grounds_13_to_15(
     ) {
         return Verdict::Refused(14, k);
     }
-    ground_15(d, plan, m)
+    ranked::ground_15(d, plan, m)
 }
 
 // Grounds 11 to 15.
@@ -142,7 +73,7 @@ fn grounds_11_to_15(
     requires { ⌜ Fits d × EdgeRuns d (planOf (now plan)) (now lo) (now hi) n × Marked d (planOf (now plan)) (now m) × BandList d (planOf (now plan)) (now a) (now b) (now c) (now x) bands × (bands < 256) ⌝ }
     ensures { λ r. ⌜ r ≡ answer (grounds11to15 d (planOf (now (plan .entry)))) (rankedCount d (planOf (now (plan .entry)))) ⌝ }
 {
-    if much(d, plan, lo, hi, n) {
+    if span::much(d, plan, lo, hi, n) {
         return Verdict::Refused(11, 0);
     }
     if let Found::At(k) = limits::first_much(d, plan, a, b, c, x, bands) {

@@ -19,7 +19,7 @@ use Rattle.rules.specs.Plan.{planOf}
 use Rattle.rules.specs.Roles.{role, scatteredCount}
 use Rattle.rules.specs.Grounds.{verdict}
 use Rattle.rules.specs.Answers.{roleIn, roleAnswer, scatteredIn, scatteredAnswer}
-use Rattle.judge.proofs.Verdicts.{no-ground, first-ground}
+use Rattle.verdicts.proofs.Verdicts.{no-ground, first-ground}
 
 -- ground 16 of the role, and the role
 module _ (d : Device) (s : List ℕ) (k j : ℕ) where

@@ -1,4 +1,2 @@
-pub mod Edges
-pub mod Verdicts
 pub mod EntryAnswers
 pub mod Counts

@@ -1,73 +1,30 @@
 // The judge of plans and what stands on it: the verdict, the marks of an accepted plan, the role of a subcarrier, and how many are
 // scattered. The entries `judge`, `role` and `scattered_count` read the plan bytes anew, change nothing and ask nothing of their caller.
-// `study` and `judge_marks` are for the crates above: they ask for the array that they fill with marks.
+// `judge_marks` asks for the array that it fills with marks.
 ghost use mathlib.Core.Path.{_≡_};
 ghost use lib.ListN.{length};
 ghost use Prim.Native.Nat.{_<_};
 ghost use Rattle.rules.specs.Device.{khz50, phases};
 ghost use Rattle.rules.specs.Plan.{planOf};
 ghost use Rattle.rules.specs.Roles.{scatteredCount};
-ghost use Rattle.rules.specs.Grounds.{grounds1to5, verdict};
-ghost use Rattle.rules.specs.declared.Finding.the-variants.{Fine};
+ghost use Rattle.rules.specs.Grounds.{verdict};
 ghost use Rattle.rules.specs.Answers.{roleIn, roleAnswer, scatteredAnswer};
 ghost use Rattle.rules.specs.Fits.{Fits};
-ghost use Rattle.plan.specs.Noted.{Noted};
-ghost use Rattle.judge.specs.Studied.{Studied, StudiedIf, MarksIf};
-use plan::Chain;
+ghost use Rattle.verdicts.specs.Studied.{Studied, MarksIf};
 use rules::CountAnswer;
 use rules::Device;
-use rules::Finding;
 use rules::RoleAnswer;
 use rules::Verdict;
 
 // Phases are 0 to 127, and the scattered pilots of one phase stand so far apart.
 const PHASES: usize = 128;
 
-// Grounds 6 to 15 of a plan whose chain is good, from its tables.
-fn study_tables(
-    d: Device,
-    plan: &[u8],
-    reach: &[u16; 4096],
-    hot: &[u8; 256],
-    pil: &[u16; 128],
-    rec: &[u16; 128],
-    np: usize,
-    m: &mut [u16; 4096],
-) -> Verdict
-    requires { ⌜ Fits d × Noted d (now plan) np (now reach) (now hot) (now pil) (now rec) × (Fine ≡ grounds1to5 d (now plan)) × (length (now m) ≡ 4096) ⌝ }
-    ensures { λ r. ⌜ (r ≡ verdict d (now (plan .entry))) × StudiedIf r d (now (plan .entry)) (now (m .exit)) × (length (now (m .exit)) ≡ 4096) ⌝ }
-{
-    let mut lo = [0u16; 2048];
-    let mut hi = [0u16; 2048];
-    let n = ranges::runs(reach, hot, d.subcarriers, &mut lo, &mut hi);
-    let l = records::number_at(plan, 4);
-    match marks::grounds_6_to_8(d, plan, &lo, &hi, n, pil, rec, np, l, m) {
-        Finding::Ground(g, k) => Verdict::Refused(g, k),
-        Finding::Fine => grounds::grounds_9_to_15(d, plan, &lo, &hi, n, m),
-    }
-}
-
-// Grounds 1 to 15 of any device that fits. Where the plan is accepted, m holds the mark of every subcarrier.
-pub fn study(d: Device, plan: &[u8], m: &mut [u16; 4096]) -> Verdict
-    requires { ⌜ Fits d × (length (now m) ≡ 4096) ⌝ }
-    ensures { λ r. ⌜ (r ≡ verdict d (now (plan .entry))) × StudiedIf r d (now (plan .entry)) (now (m .exit)) × (length (now (m .exit)) ≡ 4096) ⌝ }
-{
-    let mut reach = [0u16; 4096];
-    let mut hot = [0u8; 256];
-    let mut pil = [0u16; 128];
-    let mut rec = [0u16; 128];
-    match plan::walk_chain(d, plan, &mut reach, &mut hot, &mut pil, &mut rec) {
-        Chain::Bad(g, place) => Verdict::Refused(g, place),
-        Chain::Good(np) => study_tables(d, plan, &reach, &hot, &pil, &rec, np, m),
-    }
-}
-
 // The verdict on any bytes.
 pub fn judge(plan: &[u8]) -> Verdict
     ensures { λ r. ⌜ r ≡ verdict khz50 (now (plan .entry)) ⌝ }
 {
     let mut m = [0u16; 4096];
-    study(rules::khz50_device(), plan, &mut m)
+    verdicts::study(rules::khz50_device(), plan, &mut m)
 }
 
 // The verdict, and the marks of an accepted plan in the lent array: 0 where a subcarrier has a rank.
@@ -75,7 +32,7 @@ pub fn judge_marks(plan: &[u8], m: &mut [u16; 4096]) -> Verdict
     requires { ⌜ length (now m) ≡ 4096 ⌝ }
     ensures { λ r. ⌜ (r ≡ verdict khz50 (now (plan .entry))) × MarksIf r khz50 (now (plan .entry)) (now (m .exit)) ⌝ }
 {
-    study(rules::khz50_device(), plan, m)
+    verdicts::study(rules::khz50_device(), plan, m)
 }
 
 // The role of subcarrier k of an accepted plan at a phase; ground 16 where one is out of its range.
@@ -102,7 +59,7 @@ pub fn role(plan: &[u8], k: u32, phase: u32) -> RoleAnswer
 {
     let d = rules::khz50_device();
     let mut m = [0u16; 4096];
-    match study(d, plan, &mut m) {
+    match verdicts::study(d, plan, &mut m) {
         Verdict::Refused(g, place) => RoleAnswer::Refused(g, place),
         Verdict::Accepted(_) => role_in(d, plan, &m, k, phase),
     }
@@ -132,7 +89,7 @@ pub fn scattered_count(plan: &[u8], phase: u32) -> CountAnswer
 {
     let d = rules::khz50_device();
     let mut m = [0u16; 4096];
-    if let Verdict::Refused(g, place) = study(d, plan, &mut m) {
+    if let Verdict::Refused(g, place) = verdicts::study(d, plan, &mut m) {
         return CountAnswer::Refused(g, place);
     }
     let j = phase as usize;

@@ -1,13 +1,13 @@
--- Grounds 9, 10, 12, 13 and 14 as searches over the lists of the bands. Assumes nothing.
+-- Grounds 9, 10 and 12 as searches over the lists of the bands. Assumes nothing.
 use mathlib.Core.Path.{_≡_, ap}
 use mathlib.Core.List.{List}
 use Prim.Native.Nat.{ℕ}
 use Rattle.counting.specs.Search.{first, isNone}
 use Rattle.rules.specs.declared.Device.{Device}
 use Rattle.rules.specs.Plan.{Plan}
-use Rattle.rules.specs.Grounds.{narrowBand, noWideBand, muchInBand, fullWindow}
+use Rattle.rules.specs.Grounds.{narrowBand, noWideBand, muchInBand}
 use Rattle.bands.specs.BandList.{BandList}
-use Rattle.limits.specs.Answers.{narrowIn, wideIn, muchIn, windowIn, atBand}
+use Rattle.limits.specs.Answers.{narrowIn, wideIn, muchIn, atBand}
 
 module _ (d : Device) (p : Plan) (a b c x : List ℕ) (m : ℕ) (l : BandList d p a b c x m) where
   pub narrow-is : narrowBand d p ≡ first (atBand (narrowIn (d .bandMin)) a b) m
@@ -21,7 +21,3 @@ module _ (d : Device) (p : Plan) (a b c x : List ℕ) (m : ℕ) (l : BandList d 
   pub much-in-is : muchInBand d p ≡ first (atBand (muchIn p) a b) m
   unfolding muchInBand muchIn
   much-in-is = l .all (muchIn p)
-
-  pub window-is : (size most : ℕ) → fullWindow d p size most ≡ first (atBand (windowIn p size most) a b) m
-  unfolding fullWindow windowIn
-  window-is size most = l .all (windowIn p size most)

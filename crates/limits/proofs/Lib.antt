@@ -1,4 +1,3 @@
-pub mod Windows
 pub mod Tests
 pub mod Searching
 pub mod Grounds

@@ -8,10 +8,17 @@ use native.Mathlib.Omega.{arith}
 use borrow.Author.Tests.{le-leb, lt-leb, lt-ltb, le-ltb}
 use Rattle.counting.specs.Search.{when, count}
 use Rattle.counting.specs.Runs.{Singles}
+use Rattle.counting.proofs.Laws.{count-add}
 use Rattle.rules.specs.Plan.{Plan}
 use Rattle.rules.specs.Bands.{width, excluded, excludedIn}
 use Rattle.limits.specs.Answers.{narrowIn, wideIn, muchIn}
-use Rattle.limits.proofs.Windows.{singles-count}
+
+-- as many are excluded in a band as it has singles
+singles-count : (e : ℕ → Bool) (a b : ℕ) (x : List ℕ) (from to : ℕ) → Singles e a b x from to → count (λ i. e (a + i)) (suc b - a) ≡ to - from
+singles-count e a b x from to s =
+    let n : ℕ = suc b - a in
+    let top : a + n ≡ suc b = omega (arith, s .rise) in
+    omega (arith, count-add e a n, ap (count e) top, s .total, s .some)
 
 -- grounds 9 and 10: v is the width
 module _ (w a b v : ℕ) (e : v ≡ width a b) where

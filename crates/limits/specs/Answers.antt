@@ -1,10 +1,10 @@
 -- What a search finds in one band, a to b, and the bands of the lists one after the other. Assumes nothing.
-use Prim.Native.Nat.{ℕ, suc, _+_, _-_, _*_}
+use Prim.Native.Nat.{ℕ, suc, _-_, _*_}
 use mathlib.Core.Option.{Option}
 use mathlib.Core.List.{List}
 use lib.Dec.{leb, ltb}
 use lib.ListN.{getD}
-use Rattle.counting.specs.Search.{when, first}
+use Rattle.counting.specs.Search.{when}
 use Rattle.rules.specs.Plan.{Plan}
 use Rattle.rules.specs.Bands.{width, excludedIn}
 
@@ -19,10 +19,6 @@ wideIn w a b = when (leb w (width a b)) a
 -- ground 12: a band with too many excluded for its width
 unfoldable pub muchIn : Plan → ℕ → ℕ → Option ℕ
 muchIn p a b = when (ltb (width a b) (20 * excludedIn p a (suc b - a))) a
-
--- grounds 13, 14: the lowest window of `size` inside a band that has more than `most` excluded
-unfoldable pub windowIn : Plan → ℕ → ℕ → ℕ → ℕ → Option ℕ
-windowIn p size most a b = first (λ i. when (ltb most (excludedIn p (a + i) size)) (a + i)) (suc (suc b) - a - size)
 
 -- what f finds in band j of the lists
 abbrev pub atBand : (ℕ → ℕ → Option ℕ) → List ℕ → List ℕ → ℕ → Option ℕ

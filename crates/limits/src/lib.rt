@@ -1,30 +1,29 @@
-// The limits of a band: its width, how many are excluded in it, and its windows. Each search over the bands gives the first that breaks a
-// limit (grounds 9, 12, 13 and 14) or keeps one (10). `plan` is lent for the contracts alone.
+// The limits of a band: its width, and how many are excluded in it. Each search over the bands gives the first that breaks a limit (grounds
+// 9 and 12) or keeps one (10). `plan` is lent for the contracts alone.
 ghost use mathlib.Core.Path.{_≡_};
-ghost use Prim.Native.Nat.{suc, max, _+_, _-_, _≤_, _<_};
+ghost use Prim.Native.Nat.{_≤_, _<_};
 ghost use Rattle.counting.specs.Search.{first};
-ghost use Rattle.counting.specs.Runs.{Singles};
 ghost use Rattle.counting.specs.Answer.{placeOf};
 ghost use Rattle.rules.specs.Plan.{planOf};
-ghost use Rattle.rules.specs.Bands.{width, excluded};
-ghost use Rattle.rules.specs.Fits.{Fits, capacity, limit};
+ghost use Rattle.rules.specs.Bands.{width};
+ghost use Rattle.rules.specs.Fits.{Fits, capacity};
 ghost use Rattle.bands.specs.BandList.{BandList};
 ghost use Rattle.limits.specs.BandAt.{BandAt};
-ghost use Rattle.limits.specs.Answers.{narrowIn, wideIn, muchIn, windowIn, atBand};
+ghost use Rattle.limits.specs.Answers.{narrowIn, wideIn, muchIn, atBand};
 use counting::Found;
 use counting::wide;
 use rules::Device;
 
 // A band, and its part of the list x of the individually excluded: from `from` to `to` - 1.
-struct Band {
-    low: usize,
-    high: usize,
-    from: usize,
-    to: usize,
+pub struct Band {
+    pub low: usize,
+    pub high: usize,
+    pub from: usize,
+    pub to: usize,
 }
 
 // Band j of the lists.
-fn band_at(
+pub fn band_at(
     d: Device,
     plan: &[u8],
     a: &[u16; 256],
@@ -123,71 +122,6 @@ pub fn first_much(
             return Found::At(k.low as u32);
         }
         j += 1;
-    }
-    Found::Nothing
-}
-
-// The first subcarrier of the lowest window of `size` that ends at v and lies in a band from a on.
-fn window_start(v: usize, a: usize, size: usize) -> usize
-    requires { ⌜ (v < 65536) × (a ≤ capacity) × (size ≤ limit) ⌝ }
-    ensures { λ r. ⌜ r ≡ max a (suc v - size) ⌝ }
-{
-    if v + 1 < a + size {
-        return a;
-    }
-    v + 1 - size
-}
-
-// The lowest window of `size` inside the band a to b that has more than `most` excluded.
-fn window_in(
-    plan: &[u8],
-    x: &[u16; 4096],
-    from: usize,
-    to: usize,
-    a: usize,
-    b: usize,
-    size: usize,
-    most: usize,
-) -> Found
-    requires { ⌜ Singles (excluded (planOf (now plan))) a b (now x) from to × (to ≤ capacity) × (b < capacity) × (size ≤ limit) × (most ≤ limit) ⌝ }
-    ensures { λ r. ⌜ placeOf r ≡ windowIn (planOf (now (plan .entry))) size most a b ⌝ }
-{
-    if b + 1 < a + size {
-        return Found::Nothing;
-    }
-    let mut q = from;
-    while q + most < to {
-        let v = wide(x[q + most]);
-        if v < wide(x[q]) + size {
-            return Found::At(window_start(v, a, size) as u32);
-        }
-        q += 1;
-    }
-    Found::Nothing
-}
-
-// The lowest window of `size` inside a band that has more than `most` excluded (grounds 13 and 14).
-pub fn first_window(
-    d: Device,
-    plan: &[u8],
-    a: &[u16; 256],
-    b: &[u16; 256],
-    c: &[u16; 256],
-    x: &[u16; 4096],
-    m: usize,
-    size: usize,
-    most: usize,
-) -> Found
-    requires { ⌜ Fits d × BandList d (planOf (now plan)) (now a) (now b) (now c) (now x) m × (m < 256) × (size ≤ limit) × (most ≤ limit) ⌝ }
-    ensures { λ r. ⌜ placeOf r ≡ first (atBand (windowIn (planOf (now (plan .entry))) size most) (now (a .entry)) (now (b .entry))) m ⌝ }
-{
-    let mut j: usize = 0;
-    while j < m {
-        let k = band_at(d, plan, a, b, c, x, m, j);
-        match window_in(plan, x, k.from, k.to, k.low, k.high, size, most) {
-            Found::At(at) => return Found::At(at),
-            Found::Nothing => j += 1,
-        }
     }
     Found::Nothing
 }

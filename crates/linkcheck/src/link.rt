@@ -1,5 +1,4 @@
 // The link under trial, and what its steps have in common.
-use crate::lines;
 use rules::EmitterState;
 use rules::ReceiverState;
 
@@ -8,8 +7,14 @@ pub(crate) const STORE: usize = 120000;
 
 pub(crate) const SYMBOL: usize = 4096;
 
+// Phases are 0 to 127.
+pub(crate) const PHASES: usize = 128;
+
 // The code of a step that sent, and of a fresh start.
 pub(crate) const SENT: u32 = 300;
+
+// The kind of the right sends and receives; those of the wrong ones are 0 to 7.
+pub(crate) const RIGHT: u32 = 8;
 
 // The link: M, and M times N_I; the starting phase, the number of the next symbol, both states, and whether all was right so far; then the
 // numbers of the line.
@@ -46,17 +51,30 @@ pub(crate) fn refusal(number: u32) -> u32 {
     std::num::wrapping_add_u32(100, number)
 }
 
-// The kind of the wrong steps of a symbol, 0 to 7.
-pub(crate) fn kind_of(link: Link) -> u32 {
-    std::num::wrapping_add_u32(link.start, link.t) % 8
+// N_D of an input symbol, from the counts of all phases.
+pub(crate) fn count_of(link: Link, input: u32, counts: &[u16; PHASES]) -> usize {
+    let phase = std::num::wrapping_add_u32(link.start, input) % 128;
+    samples::at(counts, phase as usize) as usize
 }
 
-// The link after an answer of this code; another than the wanted one is printed.
-pub(crate) fn answered(link: Link, wanted: u32, got: u32) -> Link {
-    let mut next = link;
-    if wanted != got {
-        lines::print_answer(link.start, link.t, wanted, got);
-        next.right = false;
+// The link after a difference; the first is printed, as a text with its numbers.
+pub(crate) fn differs(link: Link, text: &[u8], numbers: [u32; 7]) -> Link {
+    if link.right {
+        console::print_line(text, numbers);
     }
+    let mut next = link;
+    next.right = false;
     next
+}
+
+// The link after an answer of this code.
+pub(crate) fn answered(link: Link, wanted: u32, got: u32) -> Link {
+    if wanted == got {
+        return link;
+    }
+    differs(
+        link,
+        b"differs phase # symbol # answer # received #\n",
+        [link.start, link.t, wanted, got, 0, 0, 0],
+    )
 }

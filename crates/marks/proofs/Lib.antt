@@ -2,5 +2,4 @@ pub mod Stretches
 pub mod Painting
 pub mod Around
 pub mod Placing
-pub mod Clash
 pub mod Marks

@@ -1,4 +1,4 @@
-// Grounds 1 to 5 along the chain of a plan (those of one record are crate records'), and the tables that are filled on the way:
+// Grounds 1 to 5 along the chain of a plan (those of one record are crate recordgrounds'), and the tables that are filled on the way:
 // excluded ranges go into `reach` and `hot` (crate ranges), the numbers of the kind 3 records, in the order of the chain, into
 // `pil`, and their indices into `rec`.
 ghost use mathlib.Core.Path.{_≡_};
@@ -14,10 +14,10 @@ ghost use Rattle.records.specs.Read.{entryOf, Narrow};
 ghost use Rattle.plan.specs.Noted.{findingOf, Filled};
 ghost use Rattle.plan.specs.Walk.{PutIf, Taken};
 use ranges::note_if;
+use recordgrounds::record_ground;
 use records::Record;
 use records::bad_length;
 use records::record_at;
-use records::record_ground;
 use rules::Device;
 
 // A good chain with so many pilots, or the number and place of the first ground.

@@ -1,4 +1,1 @@
-pub mod Decimals
-pub mod Growth
-pub mod Examples
 pub mod PlanLines

@@ -10,7 +10,7 @@ use Rattle.rules.specs.Device.{khz50}
 use Rattle.rules.specs.Grounds.{verdict}
 use Rattle.rules.specs.Answers.{scatteredAnswer}
 use Rattle.judge.proofs.EntryAnswers.{count-left}
-use Rattle.report.specs.Text.{okLine, refusedLine}
+use Rattle.text.specs.Text.{okLine, refusedLine}
 use Rattle.report.specs.PlanLine.{lineFor, planLine}
 
 countOf : CountAnswer → ℕ

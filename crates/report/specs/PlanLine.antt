@@ -7,7 +7,7 @@ use Rattle.rules.specs.Device.{khz50}
 use Rattle.rules.specs.Plan.{planOf}
 use Rattle.rules.specs.Roles.{scatteredCount}
 use Rattle.rules.specs.Grounds.{verdict}
-use Rattle.report.specs.Text.{okLine, refusedLine}
+use Rattle.text.specs.Text.{okLine, refusedLine}
 
 -- the line of a verdict on the plan s: N_I and the scattered count at phase 0, or number and place
 unfoldable pub lineFor : List ℕ → Verdict → List ℕ

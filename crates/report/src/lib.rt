@@ -1,39 +1,14 @@
-// The lines that the bench programs print, as proved text: what a line says is a definition of specs/Text.antt.
-ghost use Prim.Native.Nat.{_≤_};
+// The line that plancheck prints for a plan, as proved text: specs/PlanLine.antt says which.
 ghost use mathlib.Core.Path.{_≡_};
-ghost use mathlib.Core.List.{[], _∷_};
-ghost use lib.ListN.{length};
 ghost use Rattle.io.specs.Counts.{Counts};
-ghost use Rattle.report.specs.Text.{decimal, lineOf, okLine, refusedLine};
 ghost use Rattle.rules.specs.declared.Verdict.the-variants.{Accepted};
 ghost use Rattle.rules.specs.Device.{khz50};
 ghost use Rattle.rules.specs.Grounds.{verdict};
-ghost use Rattle.report.specs.Bytes.{written, Room, Longer};
+ghost use Rattle.text.specs.Bytes.{written};
 ghost use Rattle.report.specs.PlanLine.{planLine};
 use rules::CountAnswer;
 use rules::Verdict;
-
-// A line: the first len bytes of text.
-pub struct Line {
-    pub text: [u8; 32],
-    pub len: usize,
-}
-
-// The line of an accepted plan: N_I, and the number scattered at phase 0.
-pub fn ok_line(n: u32, scattered: u32) -> Line
-    ensures { λ r. ⌜ written r ≡ okLine n scattered ⌝ }
-    ensures { λ r. ⌜ Counts (r .len) (r .text) ⌝ }
-{
-    line_of(b"ok ", n, scattered)
-}
-
-// The line of a refused plan: number and place.
-pub fn refused_line(number: u32, place: u32) -> Line
-    ensures { λ r. ⌜ written r ≡ refusedLine number place ⌝ }
-    ensures { λ r. ⌜ Counts (r .len) (r .text) ⌝ }
-{
-    line_of(b"refused ", number, place)
-}
+use text::Line;
 
 // The line of a plan: what plancheck prints for any bytes.
 pub fn plan_line(plan: &[u8]) -> Line
@@ -41,7 +16,7 @@ pub fn plan_line(plan: &[u8]) -> Line
     ensures { λ r. ⌜ Counts (r .len) (r .text) ⌝ }
 {
     match judge::judge(plan) {
-        Verdict::Refused(number, place) => refused_line(number, place),
+        Verdict::Refused(number, place) => text::refused_line(number, place),
         Verdict::Accepted(n) => counted_line(plan, n),
     }
 }
@@ -53,60 +28,7 @@ fn counted_line(plan: &[u8], n: u32) -> Line
     ensures { λ r. ⌜ Counts (r .len) (r .text) ⌝ }
 {
     match judge::scattered_count(plan, 0) {
-        CountAnswer::Count(scattered) => ok_line(n, scattered),
-        CountAnswer::Refused(number, place) => refused_line(number, place),
+        CountAnswer::Count(scattered) => text::ok_line(n, scattered),
+        CountAnswer::Refused(number, place) => text::refused_line(number, place),
     }
-}
-
-// A word, two numbers and the end of the line.
-fn line_of(word: &[u8], a: u32, b: u32) -> Line
-    requires { ⌜ length (now word) ≤ 8 ⌝ }
-    ensures { λ r. ⌜ written r ≡ lineOf (now (word .entry)) a b ⌝ }
-    ensures { λ r. ⌜ Counts (r .len) (r .text) ⌝ }
-{
-    let empty = Line {
-        text: [0; 32],
-        len: 0,
-    };
-    let begun = append(empty, word);
-    let one = append_number(begun, a);
-    let spaced = push(one, b' ');
-    let two = append_number(spaced, b);
-    push(two, b'\n')
-}
-
-// The line with a number more, which has up to ten digits.
-fn append_number(line: Line, n: u32) -> Line
-    requires { ⌜ Room line 10 ⌝ }
-    ensures { λ r. ⌜ Longer line (decimal n) r ⌝ }
-{
-    let mut digits = [0; 20];
-    let k = io::decimal(n as u64, &mut digits);
-    append(line, &digits[..k])
-}
-
-// The line with some bytes more.
-fn append(line: Line, bytes: &[u8]) -> Line
-    requires { ⌜ Room line (length (now bytes)) ⌝ }
-    ensures { λ r. ⌜ Longer line (now (bytes .entry)) r ⌝ }
-{
-    let mut longer = line;
-    let mut i = 0;
-    while i < bytes.len() {
-        let next = push(longer, bytes[i]);
-        longer = next;
-        i += 1;
-    }
-    longer
-}
-
-// The line with one byte more.
-fn push(mut line: Line, byte: u8) -> Line
-    requires { ⌜ Room line 1 ⌝ }
-    ensures { λ r. ⌜ Longer line (byte ∷ []) r ⌝ }
-{
-    let at = line.len;
-    line.text[at] = byte;
-    line.len = at + 1;
-    line
 }

@@ -1,5 +1,6 @@
-// The rules of document 01 as definitions (specs/), the starred cases proved of them (proofs/), and the types that
-// definitions and code share: a device's sizes and the answers of the entries. Fields are spelled as in the definitions.
+// The rules of document 01 as definitions (specs/), a table of them at a small device (proofs/SmallTable; crate starred has the starred
+// cases), and the types that definitions and code share: a device's sizes and the answers of the entries. Fields are spelled as in the
+// definitions.
 ghost use mathlib.Core.Path.{_≡_};
 ghost use Rattle.rules.specs.Device.{khz50};
 

@@ -21,7 +21,7 @@ use Rattle.facts.specs.Roomy.{Roomy}
 use Rattle.facts.proofs.Framed.{sound, counted}
 use Rattle.facts.proofs.Data.{some-data}
 use Rattle.facts.proofs.Sizes.{khz50-roomy}
-use Rattle.judge.proofs.Verdicts.{no-ground}
+use Rattle.verdicts.proofs.Verdicts.{no-ground}
 use Rattle.runs.specs.Run.{EmitterSteps, ReceiverSteps, input, sent, heard}
 use Rattle.runs.specs.Demand3.{Placed, Flushed, Follows, Returned, Demand3}
 use Rattle.runs.specs.Claims.{PlanClaims}

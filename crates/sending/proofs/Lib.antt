@@ -1,3 +1,1 @@
-pub mod GivenLaws
-pub mod Cleared
-pub mod Answers
+mod GivenLaws

@@ -1,17 +1,18 @@
 // What a sending step, emit or flush, does besides the store and the symbol on the line: grounds 18 and 19, the input symbol, and the state
-// of the next step. The cells of store and symbol may be of any form.
+// of the next step. The cells of store, data and symbol may be of any form.
 ghost use mathlib.Core.Path.{_≡_};
-ghost use Prim.Native.Nat.{_+_, _%_, _≤_, _<_};
+ghost use mathlib.Core.List.{List};
+ghost use Prim.Native.Nat.{ℕ, _+_, _%_, _≤_, _<_};
 ghost use lib.ListN.{length};
-ghost use Rattle.rules.specs.declared.Finding.the-variants.{Fine};
 ghost use Rattle.rules.specs.Device.{phases};
 ghost use Rattle.rules.specs.Fits.{Fits};
 ghost use Rattle.rules.specs.Plan.{planOf};
-ghost use Rattle.rules.specs.Frame.{frameOf, cells, dataCount, inputCells};
+ghost use Rattle.rules.specs.Frame.{frameOf, cells, dataCount};
 ghost use Rattle.rules.specs.Store.{nextRow};
-ghost use Rattle.rules.specs.Steps.{givenGrounds};
 ghost use Rattle.fill.specs.Flags.{Flagged};
+ghost use Rattle.steps.specs.Begins.{Begins};
 ghost use Rattle.sending.specs.Sent.{givenBy};
+ghost use Rattle.sending.specs.Given.{Filled};
 use counting::Found;
 use rules::Device;
 use rules::EmitterState;
@@ -28,8 +29,8 @@ pub fn next_state(m: usize, state: EmitterState) -> EmitterState
     }
 }
 
-// Grounds 18 and 19 and, where neither holds, the input symbol at a phase in x: the data of the input, or filler where the step is a flush.
-// The flags are those of the placeholders, and nd is N_D.
+// Grounds 18 and 19 and, where neither holds, the input symbol at a phase in x: the data, or filler where the step is a flush. The data are
+// `number` cells, the first ones of `given`. The flags are those of the placeholders, and nd is N_D.
 pub fn fill_in(
     d: Device,
     plan: &[u8],
@@ -37,23 +38,24 @@ pub fn fill_in(
     flushing: bool,
     nd: usize,
     flag: &[u8],
-    input: &[u16],
+    number: usize,
+    given: &[u16],
     x: &mut [u16],
 ) -> Finding
-    requires { ⌜ Fits d × (length (now x) ≡ cells (frameOf d (planOf (now plan)))) × (length (now flag) ≡ length (now x)) × Flagged (frameOf d (planOf (now plan))) phase (now flag) × (nd ≡ dataCount (frameOf d (planOf (now plan))) phase) ⌝ }
-    ensures found { λ r. ⌜ r ≡ givenGrounds (frameOf d (planOf (now (plan .entry)))) phase (givenBy flushing (now (input .entry))) ⌝ }
-    ensures filled { λ r. ⌜ (r ≡ Fine → now (x .exit) ≡ inputCells (frameOf d (planOf (now (plan .entry)))) phase (givenBy flushing (now (input .entry)))) ⌝ }
+    requires { ⌜ Fits d × (length (now x) ≡ cells (frameOf d (planOf (now plan)))) × (length (now x) ≤ length (now flag)) × Flagged (frameOf d (planOf (now plan))) phase (now flag) × (nd ≡ dataCount (frameOf d (planOf (now plan))) phase) × (number ≤ d .subcarriers → number ≤ length (now given)) ⌝ }
+    ensures { λ r. ⌜ ((ds : List ℕ) → Begins (now (given .entry)) number ds → Filled (frameOf d (planOf (now (plan .entry)))) phase (givenBy flushing ds) r (now (x .exit))) ⌝ }
 {
     if flushing {
         fill::fill_filler(x, flag);
         return Finding::Fine;
     }
-    if input.len() != nd {
+    if number != nd {
         return Finding::Ground(18, 0);
     }
-    if let Found::At(i) = fill::first_over(input) {
+    let ds = &given[..nd];
+    if let Found::At(i) = datalimit::first_over(ds) {
         return Finding::Ground(19, i);
     }
-    fill::fill_data(x, flag, input);
+    fill::fill_data(x, flag, ds);
     Finding::Fine
 }

@@ -12,10 +12,10 @@ use Rattle.rules.specs.Plan.{Plan}
 use Rattle.rules.specs.Grounds.{verdict}
 use Rattle.rules.specs.Frame.{frameOf, cells}
 use Rattle.rules.proofs.Sizes.{khz50-fits}
-use Rattle.judge.specs.Studied.{Studied, StudiedIf}
-use Rattle.judge.proofs.Verdicts.{no-ground}
-use Rattle.cells.proofs.Frames.{cells-le}
-use Rattle.cells.proofs.Answers.{accepted-cells}
+use Rattle.verdicts.specs.Studied.{Studied, StudiedIf}
+use Rattle.verdicts.proofs.Verdicts.{no-ground}
+use Rattle.spots.proofs.Frames.{cells-le}
+use Rattle.spots.proofs.Accepted.{accepted-cells}
 use Rattle.facts.proofs.Accepted.{depth-in}
 use Rattle.steps.specs.Ready.{Ready}
 

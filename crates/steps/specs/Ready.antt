@@ -14,7 +14,7 @@ use Rattle.rules.specs.declared.CountAnswer.the-variants.{Count, Refused}
 use Rattle.rules.specs.Grounds.{grounds1to15, _else_}
 use Rattle.rules.specs.Frame.{Frame, frameOf, cells, carrier, spot, held, dataCount}
 use Rattle.rules.specs.Steps.{stateGround16, ground17}
-use Rattle.judge.specs.Studied.{Studied}
+use Rattle.verdicts.specs.Studied.{Studied}
 
 -- the device fits, no ground of 1 to 15 refuses the plan, its depth is 1 to 128, n is N_I, and m holds the marks
 pub record Ready (d : Device) (s : List ℕ) (n : ℕ) (m : List ℕ) : Type 0 where

@@ -80,7 +80,7 @@ pub fn ready(
     ) {
         return CountAnswer::Refused(g, place);
     }
-    let nd = cells::prepare(d, plan, marks, m, j, car, kc, flag);
+    let nd = spots::prepare(d, plan, marks, m, j, car, kc, flag);
     CountAnswer::Count(nd as u32)
 }
 

@@ -7,7 +7,7 @@ use lib.ListN.{length, getD, length-set}
 use Rattle.rules.specs.Plan.{planOf}
 use Rattle.rules.specs.Frame.{frameOf}
 use Rattle.rows.proofs.Walk.{Filled, filled-next, next-up}
-use Rattle.cells.proofs.Frames.{cells-le}
+use Rattle.spots.proofs.Frames.{cells-le}
 use Rattle.frame.proofs.Cells.{spot-below}
 use Rattle.arrivals.proofs.Ordered.{taken-cells}
 use Rattle.arrivals.proofs.line_cells.Statement.{statement}

@@ -19,7 +19,7 @@ fits g n e =
     subst (λ (k : ℕ). 2 * (g .args .row * k + k) ≤ length (g .args .store .now)) (sym e) (omega (arith, row-fits (g .args .m) size size (g .args .row) (g .args .m * size) (g .pre .2) refl (omega arith), g .pre .7))
 
 line-cells-requires : tie.Need-line-cells-requires
-line-cells-requires c κs = search needs
+line-cells-requires c κs = let pre = c .before .before .before .before .before .before .pre in (pre .0, pre .4, pre .5, pre .6, λ p h. pre .8 p (omega (arith, h, pre .5)))
 
 mul-write-cells : tie.Need-mul-write-cells
 mul-write-cells c = record { fits = omega (arith, fits (c .before .before .before .before .before .before .before .before .before .before) _ (c .before .before .before .line-cells .kept .1 .1 .1 .1 .0)) }
@@ -28,10 +28,10 @@ write-cells-requires : tie.Need-write-cells-requires
 write-cells-requires c κs = fits (c .before .before .before .before .before .before .before .before .before .before .before) _ (c .before .before .before .before .line-cells .kept .1 .1 .1 .1 .0)
 
 same-length : tie.Need-same-length
-same-length c = search needs
+same-length c = c .before .before .write-cells .kept .0
 
 same-length-2 : tie.Need-same-length-2
-same-length-2 c = search needs
+same-length-2 c = c .before .before .before .before .before .before .before .line-cells .kept .1 .1 .1 .1 .0
 
 returns : tie.Need-returns
 unfolding putRow

@@ -8,8 +8,8 @@ use Rattle.rules.specs.declared.CountAnswer.the-variants.{Count}
 use Rattle.rules.specs.Plan.{Plan, planOf}
 use Rattle.rules.specs.Fits.{Fits, capacity}
 use Rattle.rules.specs.Frame.{frameOf, cells}
-use Rattle.cells.proofs.Frames.{cells-le, data-le}
-use Rattle.cells.proofs.Parts.{part-size}
+use Rattle.spots.proofs.Frames.{cells-le, data-le}
+use Rattle.spots.proofs.Parts.{part-size}
 use Rattle.cells.proofs.Answers.{count-late, count-is}
 use Rattle.cells.proofs.count_in.Statement.{statement}
 use Rattle.cells.proofs.count_in.Tie as tie

@@ -11,10 +11,11 @@ use Rattle.rules.specs.Fits.{Fits}
 use Rattle.rules.specs.Frame.{frameOf}
 use Rattle.rules.specs.Steps.{frameCount}
 use Rattle.rules.proofs.Sizes.{khz50-fits}
-use Rattle.judge.specs.Studied.{StudiedIf}
-use Rattle.judge.proofs.Verdicts.{no-ground}
+use Rattle.verdicts.specs.Studied.{StudiedIf}
+use Rattle.verdicts.proofs.Verdicts.{no-ground}
 use Rattle.facts.proofs.Accepted.{depth-in}
-use Rattle.cells.proofs.Answers.{accepted-cells, count-refused, count-left}
+use Rattle.spots.proofs.Accepted.{accepted-cells}
+use Rattle.cells.proofs.Answers.{count-refused, count-left}
 use Rattle.cells.proofs.data_count.Statement.{statement}
 use Rattle.cells.proofs.data_count.Tie as tie
 

@@ -1,6 +1,6 @@
 -- `emitcases::mixed_counts` ends: the phases that are left fall at each turn. Assumes nothing.
-use Prim.Native.Nat.{_-_}
 use borrow.Author.Needs.{needs}
+use Prim.Native.Nat.{_-_}
 use Rattle.emitcases.proofs.mixed_counts.Statement.{statement}
 use Rattle.emitcases.proofs.mixed_counts.Tie as tie
 
@@ -13,6 +13,9 @@ abbrev μ-loop : tie.MeasureT-loop
 loop-holds : tie.Need-loop-holds Inv-loop μ-loop
 loop-holds c = tt
 
+data-count-requires : tie.Need-data-count-requires Inv-loop μ-loop
+data-count-requires c κs = search needs
+
 mixed-count-requires : tie.Need-mixed-count-requires Inv-loop μ-loop
 mixed-count-requires c κs = search needs
 
@@ -24,6 +27,9 @@ loop-less c = search needs
 
 loop-again : tie.Need-loop-again Inv-loop μ-loop
 loop-again c = tt
+
+data-count-requires-2 : tie.Need-data-count-requires-2 Inv-loop μ-loop
+data-count-requires-2 c κs = search needs
 
 mixed-count-requires-2 : tie.Need-mixed-count-requires-2 Inv-loop μ-loop
 mixed-count-requires-2 c κs = search needs
@@ -38,9 +44,11 @@ mixed-counts-spec =
     Inv-loop
     μ-loop
     loop-holds
+    data-count-requires
     mixed-count-requires
     add-j
     loop-less
     loop-again
+    data-count-requires-2
     mixed-count-requires-2
     returns)

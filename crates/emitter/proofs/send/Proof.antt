@@ -1,38 +1,89 @@
--- `emitter::send` meets its contract. Assumes nothing.
+-- `emitter::send` meets its contract: one law for a refusal, one for an accepted step. Assumes nothing.
 use borrow.Author.Needs.{needs}
-use Prim.Native.Nat.{ℕ, _≤_}
-use mathlib.Core.Path.{refl, sym, ap, _∙_, subst}
+use Prim.Native.Nat.{_*_, _≤_}
+use mathlib.Core.Path.{_≡_, refl, sym, ap, _∙_, subst}
+use mathlib.Core.List.{_++_}
 use native.Mathlib.Omega.{arith}
+use lib.ListN.{length, take, drop}
+use lib.Seq.{length-take-le, length-front, take-at, take-length}
 use Rattle.rules.specs.declared.Device.{Device}
+use Rattle.rules.specs.declared.Verdict.{Verdict}
+use Rattle.rules.specs.declared.Verdict.the-variants.{Accepted}
 use Rattle.rules.specs.Device.{khz50}
-use Rattle.rules.specs.Fits.{Fits}
+use Rattle.rules.specs.Fits.{Fits, capacity}
 use Rattle.rules.specs.Plan.{planOf}
-use Rattle.rules.specs.Grounds.{verdict}
+use Rattle.rules.specs.Frame.{frameOf, cells, lineSymbol}
+use Rattle.rules.specs.Steps.{Emitter, Send}
 use Rattle.rules.proofs.Sizes.{khz50-fits}
-use Rattle.judge.proofs.Verdicts.{first-ground}
-use Rattle.cells.proofs.Parts.{part-size}
-use Rattle.steps.specs.Ready.{Ready}
-use Rattle.steps.proofs.Accepted.{cells-low, khz50-ready}
+use Rattle.steps.proofs.Accepted.{cells-low}
+use Rattle.steps.proofs.Lent.{Lent}
 use Rattle.sending.specs.Sent.{givenBy, at, giving, stepBy}
-use Rattle.sending.proofs.Answers.{refused-plan}
+use Rattle.sendgrounds.specs.Admission.{Admits}
+use Rattle.sendgrounds.proofs.Answers.{refused, fit, sent}
 use Rattle.emitter.proofs.send.Statement.{statement}
 use Rattle.emitter.proofs.send.Tie as tie
 
--- the plan is ready for the step
-accepted : (c : tie.After-n) → Ready (c .before .before .before .before .khz50-device .result) (c .before .before .before .before .before .before .before .before .before .args .plan .now) (c .n .given .0 .0) (c .before .before .study .last .1 .1 .0)
-accepted c =
-    let study = c .before .before .study in
-    khz50-ready _ (c .before .before .before .before .before .before .before .before .before .args .plan .now) _ _ (study .result) (c .before .before .before .before .khz50-device .ensures) (c .n .given .1) (study .ensures .0) (study .ensures .1)
+-- the emitter, and what the step is given
+abbrev emitter : tie.Start → Emitter
+emitter g = at (g .args .state) (g .args .store .now)
 
--- its cells fit the arrays
-low : (c : tie.After-n) → c .n .given .0 .0 ≤ 4096
-low c = let w = accepted c in omega (arith, w .all, cells-low (c .before .before .before .before .khz50-device .result) (planOf (c .before .before .before .before .before .before .before .before .before .args .plan .now)) (w .fits))
+abbrev asked : tie.Start → Send
+asked g = giving (givenBy (g .args .flushing) (g .args .input .now)) (g .args .symbol .now)
+
+-- what `admit` says of the step under a verdict
+Said : tie.After-admit → Verdict → Type 0
+Said c r = let g = c .before .before .before .before .before .before .before .before .before in let last = c .admit .last .1 .1 .1 .1 .1 .1 .1 .1 in Admits r (c .before .before .before .before .khz50-device .result) (g .args .plan .now) (emitter g) (asked g) (last .0) (last .1 .0) (last .1 .1 .0)
+
+said : (c : tie.After-admit) → Said c (c .admit .result)
+unfolding Said
+said c =
+    let a = c .before .before .before .before .before .before .before .before .before .args in
+    c .admit .ensures (a .store .now) (a .input .now) (a .symbol .now) refl refl (record { number = refl; read = λ _. take-length (a .input .now) })
+
+taken : (c : tie.After-n) → Said (c .before .before .before) (Accepted (c .n .given .0 .0))
+taken c = subst (Said (c .before .before .before)) (c .n .given .1) (said (c .before .before .before))
+
+-- the cells fit the array
+size : (c : tie.After-admit) → length (c .admit .last .1 .1 .1 .1 .1 .1 .1 .1 .1 .1 .0) ≡ capacity
+size c = c .admit .kept .1 .1 .1 .1 .1 .1 .1 .1 .1 .1 .0
+
+low : (c : tie.After-n) → c .n .given .0 .0 ≤ capacity
+unfolding Said
+low c =
+    let r = taken c .1 .ready in
+    omega (arith, r .all, cells-low (c .before .before .before .before .before .before .before .khz50-device .result) (planOf (c .before .before .before .before .before .before .before .before .before .before .before .before .args .plan .now)) (r .fits))
+
+-- so many are the first ones
+part : (c : tie.After-n) → length (take (c .n .given .0 .0) (c .before .before .before .admit .last .1 .1 .1 .1 .1 .1 .1 .1 .1 .1 .0)) ≡ c .n .given .0 .0
+part c = length-take-le (c .n .given .0 .0) (c .before .before .before .admit .last .1 .1 .1 .1 .1 .1 .1 .1 .1 .1 .0) (omega (arith, low c, size (c .before .before .before)))
+
+-- and stay so
+kept : (c : tie.After-delay) → length (c .delay .last .1 .1 .1 .0) ≡ c .before .before .before .before .before .before .n .given .0 .0
+kept c = c .delay .kept .1 .1 .1 .0 ∙ part (c .before .before .before .before .before .before)
+
+-- in an array that is whole again
+front : (c : tie.After-delay) → take (c .before .before .before .before .before .before .n .given .0 .0) (c .delay .last .1 .1 .1 .0 ++ drop (c .before .before .before .before .before .before .n .given .0 .0) (c .before .before .before .before .before .before .before .before .before .admit .last .1 .1 .1 .1 .1 .1 .1 .1 .1 .1 .0)) ≡ c .delay .last .1 .1 .1 .0
+front c = take-at (c .delay .last .1 .1 .1 .0) (drop (c .before .before .before .before .before .before .n .given .0 .0) (c .before .before .before .before .before .before .before .before .before .admit .last .1 .1 .1 .1 .1 .1 .1 .1 .1 .1 .0)) (c .before .before .before .before .before .before .n .given .0 .0) (kept c)
+
+-- grounds 16 and 17 are passed, and m is the depth
+lent : (c : tie.After-number-at) → let g = c .before .before .before .before .before .before .before .before .before .before .before .before .before .before in Lent (frameOf (c .before .before .before .before .before .before .before .before .before .khz50-device .result) (planOf (g .args .plan .now))) (g .args .state .phase) (g .args .state .row) (g .args .store .now) (g .args .symbol .now)
+unfolding Said
+lent c = let g = c .before .before .before .before .before .before .before .before .before .before .before .before .before .before in fit (c .before .before .before .before .before .before .before .before .before .khz50-device .result) (g .args .plan .now) (emitter g) (asked g) (c .before .before .n .given .0 .0) (taken (c .before .before) .0)
+
+deep : (c : tie.After-number-at) → c .number-at .result ≡ planOf (c .before .before .before .before .before .before .before .before .before .before .before .before .before .before .args .plan .now) .depth
+unfolding planOf
+deep c = c .number-at .ensures .0
 
 khz50-device-requires : tie.Need-khz50-device-requires
 khz50-device-requires c κs = search needs
 
-study-requires : tie.Need-study-requires
-study-requires c κs = (subst Fits (sym (c .before .khz50-device .ensures)) khz50-fits, refl)
+slice-aggregate-admit : tie.Need-slice-aggregate-admit
+slice-aggregate-admit c = search needs
+
+admit-requires : tie.Need-admit-requires
+admit-requires c κs =
+    let is = c .before .before .before .khz50-device .ensures in
+    (subst Fits (sym is) khz50-fits, omega (arith, ap (λ (d : Device). d .depthMax) is), λ h. omega arith, refl, refl, omega (arith, ap (λ (d : Device). d .subcarriers) is))
 
 enum-known-g : tie.Need-enum-known-g
 enum-known-g c = search needs
@@ -43,38 +94,64 @@ enum-known-n c = search needs
 cast-ni : tie.Need-cast-ni
 cast-ni c = search needs
 
-slice-aggregate-send-in : tie.Need-slice-aggregate-send-in
-slice-aggregate-send-in c = search needs
+number-at-requires : tie.Need-number-at-requires
+unfolding Said
+number-at-requires c κs = omega (arith, taken (c .before) .1 .ready .studied .long)
 
-array-borrow-prefix-kc : tie.Need-array-borrow-prefix-kc
-array-borrow-prefix-kc c = low (c .before .before .before .before .before)
-
-slice-aggregate-send-in-2 : tie.Need-slice-aggregate-send-in-2
-slice-aggregate-send-in-2 c = sym (part-size _ (low (c .before .before .before .before .before .before)))
-
-array-borrow-prefix-flag : tie.Need-array-borrow-prefix-flag
-array-borrow-prefix-flag c = low (c .before .before .before .before .before .before)
-
-slice-aggregate-send-in-3 : tie.Need-slice-aggregate-send-in-3
-slice-aggregate-send-in-3 c = sym (part-size _ (low (c .before .before .before .before .before .before .before)))
+cast-row : tie.Need-cast-row
+cast-row c = search needs
 
 array-borrow-prefix-x : tie.Need-array-borrow-prefix-x
-array-borrow-prefix-x c = low (c .before .before .before .before .before .before .before)
+array-borrow-prefix-x c = omega (arith, low (c .before .before .before .before), size (c .before .before .before .before .before .before .before))
 
-slice-aggregate-send-in-4 : tie.Need-slice-aggregate-send-in-4
-slice-aggregate-send-in-4 c = sym (part-size _ (low (c .before .before .before .before .before .before .before .before)))
+slice-aggregate-delay : tie.Need-slice-aggregate-delay
+slice-aggregate-delay c = sym (part (c .before .before .before .before .before))
 
-send-in-requires : tie.Need-send-in-requires
-send-in-requires c κs =
-    let k = c .before .before .before .before .before .before .before .before in
-    let size = part-size (k .n .given .0 .0) (low k) in
-    (subst (λ (i : ℕ). Ready (k .before .before .before .before .khz50-device .result) (k .before .before .before .before .before .before .before .before .before .args .plan .now) i (k .before .before .study .last .1 .1 .0)) (sym size) (accepted k), refl, refl, refl)
+delay-requires : tie.Need-delay-requires
+unfolding Said frameOf
+delay-requires c κs =
+    let m = deep (c .before .before .before) in
+    let w = lent (c .before .before .before) in
+    let r = taken (c .before .before .before .before .before) .1 .ready in
+    let x = part (c .before .before .before .before .before) in
+    let F = frameOf (c .before .before .before .before .before .before .before .before .before .before .before .before .khz50-device .result) (planOf (c .before .before .before .before .before .before .before .before .before .before .before .before .before .before .before .before .before .args .plan .now)) in
+    let size : c .before .before .before .number-at .result * length (take (c .before .before .before .before .before .n .given .0 .0) (c .before .before .before .before .before .before .before .before .admit .last .1 .1 .1 .1 .1 .1 .1 .1 .1 .1 .0)) ≡ F .depth * cells F = λ i. m i * (x ∙ r .all) i in
+    (omega (arith, m, w .row-in), omega (arith, m, r .shallow), omega (arith, x, low (c .before .before .before .before .before)), omega (arith, size, w .rows-fit))
+
+slice-aggregate-place : tie.Need-slice-aggregate-place
+unfolding Said
+slice-aggregate-place c = sym (taken (c .before .before .before .before .before .before .before .before .before .before .before) .1 .whole)
+
+array-share-prefix-x : tie.Need-array-share-prefix-x
+array-share-prefix-x c =
+    omega (arith, low (c .before .before .before .before .before .before .before .before .before .before .before), size (c .before .before .before .before .before .before .before .before .before .before .before .before .before .before), length-front (c .before .before .before .before .before .before .before .before .before .before .before .before .before .before .admit .last .1 .1 .1 .1 .1 .1 .1 .1 .1 .1 .0) (c .before .before .before .before .before .delay .last .1 .1 .1 .0) (c .before .before .before .before .before .before .before .before .before .before .before .n .given .0 .0) (c .before .before .before .before .before .delay .kept .1 .1 .1 .0))
+
+slice-aggregate-place-2 : tie.Need-slice-aggregate-place-2
+slice-aggregate-place-2 c = sym (ap length (front (c .before .before .before .before .before .before)) ∙ kept (c .before .before .before .before .before .before))
+
+place-requires : tie.Need-place-requires
+unfolding Said frameOf
+place-requires c κs =
+    let made = taken (c .before .before .before .before .before .before .before .before .before .before .before .before .before) .1 in
+    let r = made .ready in
+    let size = ap length (front (c .before .before .before .before .before .before .before)) ∙ kept (c .before .before .before .before .before .before .before) in
+    (r .fits, r .studied, made .whole, size ∙ r .all, lent (c .before .before .before .before .before .before .before .before .before .before .before) .whole, λ i h. made .ranks i (omega (arith, h, size)))
+
+next-state-requires : tie.Need-next-state-requires
+unfolding Said frameOf
+next-state-requires c κs =
+    let m = deep (c .before .before .before .before .before .before .before .before .before .before .before .before .before .before) in
+    let w = lent (c .before .before .before .before .before .before .before .before .before .before .before .before .before .before) in
+    (w .phase-in, omega (arith, m, w .row-in), omega (arith, m, taken (c .before .before .before .before .before .before .before .before .before .before .before .before .before .before .before .before) .1 .ready .shallow))
 
 returns : tie.Need-returns
+unfolding Said
 returns c =
-    let a = c .before .before .before .before .before .before .before .before .before .before .args in
-    let judged = c .before .before .before .study .ensures .0 ∙ ap (λ (d : Device). verdict d (a .plan .now)) (c .before .before .before .before .before .khz50-device .ensures) in
-    refused-plan khz50 (a .plan .now) (at (a .state) (a .store .now)) (giving (givenBy (a .flushing) (a .input .now)) (a .symbol .now)) _ _ (first-ground khz50 (a .plan .now) _ _ (sym (c .before .g .given .1) ∙ judged))
+    let g = c .before .before .before .before .before .before .before .before .before .before .before .before .before in
+    let a = g .args in
+    let d = c .before .before .before .before .before .before .before .before .khz50-device in
+    refused (d .result) (a .plan .now) (emitter g) (asked g) _ _ (sym (c .before .g .given .1) ∙ said (c .before .before .before .before) .0)
+    ∙ ap (λ (d : Device). stepBy d (a .plan .now) (a .flushing) (a .state) (a .store .now) (a .input .now) (a .symbol .now)) (d .ensures)
 
 same-length : tie.Need-same-length
 same-length c = search needs
@@ -83,27 +160,37 @@ same-length-2 : tie.Need-same-length-2
 same-length-2 c = search needs
 
 returns-2 : tie.Need-returns-2
+unfolding Said
 returns-2 c =
-    let a = c .before .before .before .before .before .before .before .before .before .before .before .before .before .before .before .before .before .before .before .before .before .before .before .before .before .before .args in
-    c .before .before .before .before .before .before .before .before .send-in .ensures ∙ ap (λ (d : Device). stepBy d (a .plan .now) (a .flushing) (a .state) (a .store .now) (a .input .now) (a .symbol .now)) (c .before .before .before .before .before .before .before .before .before .before .before .before .before .before .before .before .before .before .before .before .before .khz50-device .ensures)
+    let g = c .before .before .before .before .before .before .before .before .before .before .before .before .before .before .before .before .before .before .before .before .before .before .before .before .before .before .before .before .before in
+    let a = g .args in
+    let d = c .before .before .before .before .before .before .before .before .before .before .before .before .before .before .before .before .before .before .before .before .before .before .before .before .khz50-device in
+    let put = c .before .before .before .before .before .before .before .before .before .before .before .delay .ensures in
+    let step = taken (c .before .before .before .before .before .before .before .before .before .before .before .before .before .before .before .before .before) in
+    sent (d .result) (a .plan .now) (emitter g) (asked g) _ (step .0) _ _ _ _ _ _ (deep (c .before .before .before .before .before .before .before .before .before .before .before .before .before .before .before)) (part (c .before .before .before .before .before .before .before .before .before .before .before .before .before .before .before .before .before)) (step .1 .input) (put .0)
+    (c .before .before .before .place .ensures ∙ ap (lineSymbol (frameOf (d .result) (planOf (a .plan .now)))) (front (c .before .before .before .before .before .before .before .before .before .before .before) ∙ put .1)) (c .next-state .ensures)
+    ∙ ap (λ (d : Device). stepBy d (a .plan .now) (a .flushing) (a .state) (a .store .now) (a .input .now) (a .symbol .now)) (d .ensures)
 
 pub send-spec : {M : Type 1} → statement M
 send-spec =
     tie.close
     (tie.spec
     khz50-device-requires
-    study-requires
+    slice-aggregate-admit
+    admit-requires
     enum-known-g
     enum-known-n
     cast-ni
-    slice-aggregate-send-in
-    array-borrow-prefix-kc
-    slice-aggregate-send-in-2
-    array-borrow-prefix-flag
-    slice-aggregate-send-in-3
+    number-at-requires
+    cast-row
     array-borrow-prefix-x
-    slice-aggregate-send-in-4
-    send-in-requires
+    slice-aggregate-delay
+    delay-requires
+    slice-aggregate-place
+    array-share-prefix-x
+    slice-aggregate-place-2
+    place-requires
+    next-state-requires
     returns
     same-length
     same-length-2

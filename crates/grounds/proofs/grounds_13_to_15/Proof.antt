@@ -7,8 +7,9 @@ use Rattle.rules.specs.Plan.{Plan, planOf}
 use Rattle.rules.specs.Roles.{rankedCount}
 use Rattle.rules.specs.Grounds.{fullWindow, ground?, _else_}
 use Rattle.counting.specs.Answer.{placeOf}
-use Rattle.grounds.specs.Order.{ground15, grounds13to15}
-use Rattle.limits.proofs.Grounds.{window-is}
+use Rattle.ranked.specs.Ground15.{ground15}
+use Rattle.grounds.specs.Order.{grounds13to15}
+use Rattle.windows.proofs.Grounds.{window-is}
 use Rattle.grounds.proofs.Laws.{stop, pass}
 use Rattle.grounds.proofs.grounds_13_to_15.Statement.{statement}
 use Rattle.grounds.proofs.grounds_13_to_15.Tie as tie

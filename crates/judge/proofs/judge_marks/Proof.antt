@@ -6,8 +6,8 @@ use Rattle.rules.specs.Fits.{Fits}
 use Rattle.rules.proofs.Sizes.{khz50-fits}
 use Rattle.rules.specs.Device.{khz50}
 use Rattle.rules.specs.Grounds.{verdict}
-use Rattle.judge.specs.Studied.{StudiedIf}
-use Rattle.judge.proofs.Verdicts.{marks-if}
+use Rattle.verdicts.specs.Studied.{StudiedIf}
+use Rattle.verdicts.proofs.Verdicts.{marks-if}
 use Rattle.judge.proofs.judge_marks.Statement.{statement}
 use Rattle.judge.proofs.judge_marks.Tie as tie
 

@@ -8,7 +8,7 @@ use Rattle.rules.specs.declared.Verdict.{Verdict}
 use Rattle.rules.specs.Device.{khz50}
 use Rattle.rules.specs.Grounds.{verdict}
 use Rattle.rules.specs.Answers.{roleIn}
-use Rattle.judge.specs.Studied.{StudiedIf}
+use Rattle.verdicts.specs.Studied.{StudiedIf}
 use Rattle.judge.proofs.EntryAnswers.{role-refused, role-left}
 use Rattle.judge.proofs.role.Statement.{statement}
 use Rattle.judge.proofs.role.Tie as tie

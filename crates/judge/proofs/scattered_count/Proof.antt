@@ -11,7 +11,7 @@ use Rattle.rules.specs.Roles.{scatteredCount}
 use Rattle.rules.specs.Grounds.{verdict}
 use Rattle.rules.specs.Fits.{Fits}
 use Rattle.rules.proofs.Sizes.{khz50-fits}
-use Rattle.judge.specs.Studied.{Studied, StudiedIf}
+use Rattle.verdicts.specs.Studied.{Studied, StudiedIf}
 use Rattle.judge.proofs.EntryAnswers.{count-refused, count-late, count-left}
 use Rattle.judge.proofs.scattered_count.Statement.{statement}
 use Rattle.judge.proofs.scattered_count.Tie as tie

@@ -1,6 +1,6 @@
 -- `linkcheck::count_all` ends: the phases that are left fall at each turn. Assumes nothing.
-use Prim.Native.Nat.{_-_}
 use borrow.Author.Needs.{needs}
+use Prim.Native.Nat.{_-_}
 use Rattle.linkcheck.proofs.count_all.Statement.{statement}
 use Rattle.linkcheck.proofs.count_all.Tie as tie
 
@@ -13,14 +13,17 @@ abbrev μ-loop : tie.MeasureT-loop
 loop-holds : tie.Need-loop-holds Inv-loop μ-loop
 loop-holds c = tt
 
-cast-put : tie.Need-cast-put Inv-loop μ-loop
-cast-put c = search needs
-
 data-count-requires : tie.Need-data-count-requires Inv-loop μ-loop
 data-count-requires c κs = search needs
 
-put-requires : tie.Need-put-requires Inv-loop μ-loop
-put-requires c κs = search needs
+cast-swap : tie.Need-cast-swap Inv-loop μ-loop
+cast-swap c = search needs
+
+cast-swap-2 : tie.Need-cast-swap-2 Inv-loop μ-loop
+cast-swap-2 c = search needs
+
+swap-requires : tie.Need-swap-requires Inv-loop μ-loop
+swap-requires c κs = search needs
 
 add-j : tie.Need-add-j Inv-loop μ-loop
 add-j c = search needs
@@ -41,9 +44,10 @@ count-all-spec =
     Inv-loop
     μ-loop
     loop-holds
-    cast-put
     data-count-requires
-    put-requires
+    cast-swap
+    cast-swap-2
+    swap-requires
     add-j
     loop-less
     loop-again

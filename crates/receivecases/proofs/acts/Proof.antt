@@ -12,8 +12,14 @@ abbrev μ-loop : tie.MeasureT-loop
 loop-holds : tie.Need-loop-holds Inv-loop μ-loop
 loop-holds c = tt
 
-act-requires : tie.Need-act-requires Inv-loop μ-loop
-act-requires c κs = search needs
+next-byte-requires : tie.Need-next-byte-requires Inv-loop μ-loop
+next-byte-requires c κs = search needs
+
+send-requires : tie.Need-send-requires Inv-loop μ-loop
+send-requires c κs = search needs
+
+receive-requires : tie.Need-receive-requires Inv-loop μ-loop
+receive-requires c κs = search needs
 
 sub-left : tie.Need-sub-left Inv-loop μ-loop
 sub-left c = search needs
@@ -30,4 +36,14 @@ returns c = search needs
 pub acts-spec : {M : Type 1} → statement M
 acts-spec =
     tie.close
-    (tie.spec Inv-loop μ-loop loop-holds act-requires sub-left loop-less loop-again returns)
+    (tie.spec
+    Inv-loop
+    μ-loop
+    loop-holds
+    next-byte-requires
+    send-requires
+    receive-requires
+    sub-left
+    loop-less
+    loop-again
+    returns)

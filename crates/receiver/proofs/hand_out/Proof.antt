@@ -21,10 +21,10 @@ take-data-requires c κs =
     (omega (arith, same, g .pre .2), omega (arith, same, g .pre .3), subst (λ (n : ℕ). count (isZero (g .args .flag .now)) n ≤ length (g .args .buffer .now)) (sym same) (g .pre .5))
 
 same-length : tie.Need-same-length
-same-length c = search needs
+same-length c = c .before .before .before .before .before .before .before .gather .kept .1 .1 .1 .0
 
 same-length-2 : tie.Need-same-length-2
-same-length-2 c = search needs
+same-length-2 c = c .before .before .take-data .kept .1 .1 .0
 
 returns : tie.Need-returns
 returns c =

@@ -12,8 +12,8 @@ use Rattle.receiver.proofs.take_in.Statement.{statement}
 use Rattle.receiver.proofs.take_in.Tie as tie
 
 -- the row lies in the store
-fits : (g : tie.Start) → g .args .row * length (g .args .kc .now) + length (g .args .kc .now) ≤ length (g .args .store .now)
-fits g = row-fits (g .args .m) (length (g .args .kc .now)) (length (g .args .kc .now)) (g .args .row) (length (g .args .store .now)) (g .pre .1) refl (g .pre .5)
+fits : (g : tie.Start) → g .args .row * g .args .n + g .args .n ≤ length (g .args .store .now)
+fits g = row-fits (g .args .m) (g .args .n) (g .args .n) (g .args .row) (length (g .args .store .now)) (g .pre .1) refl (g .pre .6)
 
 mul-from : tie.Need-mul-from
 mul-from c = omega (arith, fits (c .before .before .before .before))
@@ -37,9 +37,9 @@ line-cells-requires : tie.Need-line-cells-requires
 line-cells-requires c κs =
     let g = c .before .before .before .before .before in
     let a = g .args in
-    let n = length (a .kc .now) in
+    let n = a .n in
     let size = part-length (a .store .now) (a .row * n) (a .row * n + n) n refl (fits g) in
-    (g .pre .0, g .pre .3, size ∙ g .pre .4, omega (arith, size), λ p h. g .pre .6 p (omega (arith, h, size)))
+    (g .pre .0, g .pre .3, size ∙ g .pre .4, omega (arith, size, g .pre .5), λ p h. g .pre .7 p (omega (arith, h, size, g .pre .4)))
 
 same-length : tie.Need-same-length
 same-length c = search needs
@@ -49,7 +49,7 @@ unfolding putRow
 returns c =
     let g = c .before .before .before .before .before .before .before .before in
     let a = g .args in
-    let n = length (a .kc .now) in
+    let n = a .n in
     let line = c .before .before .line-cells in
     let size = part-length (a .store .now) (a .row * n) (a .row * n + n) n refl (fits g) in
     put-part (a .store .now) (line .last .1 .1 .1 .1 .0) (a .row * n) n (line .kept .1 .1 .1 .1 .0 ∙ size) (fits g)

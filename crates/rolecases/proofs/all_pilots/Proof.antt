@@ -1,6 +1,6 @@
 -- `rolecases::all_pilots` ends: the L that are left fall at each turn. Assumes nothing.
-use Prim.Native.Nat.{_-_}
 use borrow.Author.Needs.{needs}
+use Prim.Native.Nat.{_-_}
 use Rattle.rolecases.proofs.all_pilots.Statement.{statement}
 use Rattle.rolecases.proofs.all_pilots.Tie as tie
 
@@ -19,8 +19,11 @@ cast-predefined-pilots c = search needs
 predefined-pilots-requires : tie.Need-predefined-pilots-requires Inv-loop μ-loop
 predefined-pilots-requires c κs = search needs
 
-mixed-pilots-requires : tie.Need-mixed-pilots-requires Inv-loop μ-loop
-mixed-pilots-requires c κs = search needs
+slice-aggregate-mixed-cells : tie.Need-slice-aggregate-mixed-cells Inv-loop μ-loop
+slice-aggregate-mixed-cells c = search needs
+
+mixed-cells-requires : tie.Need-mixed-cells-requires Inv-loop μ-loop
+mixed-cells-requires c κs = search needs
 
 add-l : tie.Need-add-l Inv-loop μ-loop
 add-l c = search needs
@@ -43,7 +46,8 @@ all-pilots-spec =
     loop-holds
     cast-predefined-pilots
     predefined-pilots-requires
-    mixed-pilots-requires
+    slice-aggregate-mixed-cells
+    mixed-cells-requires
     add-l
     loop-less
     loop-again

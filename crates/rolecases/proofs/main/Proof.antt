@@ -9,20 +9,14 @@ Inv-loop left₀ left = Unit {0}
 abbrev μ-loop : tie.MeasureT-loop
 μ-loop left₀ left = left
 
+slice-aggregate-print-line : tie.Need-slice-aggregate-print-line Inv-loop μ-loop
+slice-aggregate-print-line c = search needs
+
 all-pilots-requires : tie.Need-all-pilots-requires Inv-loop μ-loop
 all-pilots-requires c κs = search needs
 
-cast-print-decimal : tie.Need-cast-print-decimal Inv-loop μ-loop
-cast-print-decimal c = search needs
-
-print-decimal-requires : tie.Need-print-decimal-requires Inv-loop μ-loop
-print-decimal-requires c κs = search needs
-
-slice-aggregate-write-all : tie.Need-slice-aggregate-write-all Inv-loop μ-loop
-slice-aggregate-write-all c = search needs
-
-write-all-requires : tie.Need-write-all-requires Inv-loop μ-loop
-write-all-requires c κs = search needs
+print-line-requires : tie.Need-print-line-requires Inv-loop μ-loop
+print-line-requires c κs = search needs
 
 loop-holds : tie.Need-loop-holds Inv-loop μ-loop
 loop-holds c = tt
@@ -51,11 +45,9 @@ main-spec =
     (tie.spec
     Inv-loop
     μ-loop
+    slice-aggregate-print-line
     all-pilots-requires
-    cast-print-decimal
-    print-decimal-requires
-    slice-aggregate-write-all
-    write-all-requires
+    print-line-requires
     loop-holds
     one-case-requires
     returns

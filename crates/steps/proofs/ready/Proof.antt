@@ -11,7 +11,7 @@ use Rattle.rules.specs.Plan.{planOf}
 use Rattle.rules.specs.Grounds.{_else_}
 use Rattle.rules.specs.Frame.{Frame, frameOf}
 use Rattle.rules.specs.Steps.{stateGround16, ground17}
-use Rattle.cells.proofs.Frames.{data-le}
+use Rattle.spots.proofs.Frames.{data-le}
 use Rattle.steps.proofs.Accepted.{cells-low}
 use Rattle.steps.proofs.Lent.{lent, count-ready, refused-ready}
 use Rattle.steps.proofs.ready.Statement.{statement}

@@ -1,0 +1,104 @@
+-- The first ground of a sending step, stage by stage, and what the step answers and leaves: one law for a refusal, one for an accepted step.
+-- Assumes nothing.
+use mathlib.Core.Path.{_≡_, refl, sym, ap, _∙_}
+use mathlib.Core.List.{List}
+use Prim.Native.Nat.{ℕ, _+_, _%_}
+use Rattle.rules.specs.declared.Device.{Device}
+use Rattle.rules.specs.declared.Finding.{Finding}
+use Rattle.rules.specs.declared.Finding.the-variants.{Fine, Ground}
+use Rattle.rules.specs.declared.Verdict.the-variants.{Accepted, Refused}
+use Rattle.rules.specs.declared.EmitterState.{EmitterState}
+use Rattle.rules.specs.declared.SendAnswer.{SendAnswer}
+use Rattle.rules.specs.declared.SendAnswer.the-variants as a-send
+use Rattle.rules.specs.Device.{phases}
+use Rattle.rules.specs.Plan.{planOf}
+use Rattle.rules.specs.Grounds.{_else_, grounds1to15, answer}
+use Rattle.rules.specs.Frame.{Frame, frameOf, cells, inputCells, lineSymbol}
+use Rattle.rules.specs.Store.{putRow, nextRow, delayed}
+use Rattle.rules.specs.Steps as steps
+use Rattle.rules.specs.Steps.{Emitter, Send, Sending, leaves, stateGround16, ground17, givenGrounds, sendGrounds, nextState, sentStore, sentSymbol, accepted, frameStep, sendStep}
+use Rattle.records.proofs.RecordLaws.{both-fine}
+use Rattle.verdicts.proofs.Verdicts.{else-assoc, accepted-is, refused-is}
+use Rattle.steps.proofs.Lent.{Lent, lent}
+use Rattle.sendgrounds.specs.Admission.{admission}
+
+module _ (d : Device) (s : List ℕ) (e : Emitter) (a : Send) where
+  abbrev F : Frame
+  F = frameOf d (planOf s)
+
+  -- grounds 16 and 17 of a step, and those of what it is given
+  abbrev of-lent : Finding
+  of-lent = stateGround16 F (e .state .phase) (e .state .row) else ground17 F (e .store) (a .room)
+
+  abbrev of-given : Finding
+  of-given = givenGrounds F (e .state .phase) (a .given)
+
+  -- refused as the plan is
+  pub by-plan : (n place : ℕ) → grounds1to15 d s ≡ Ground n place → Refused n place ≡ admission d s e a
+  unfolding admission
+  by-plan n place h = sym (ap (λ (f : Finding). answer (f else sendGrounds F e a) (cells F)) h)
+
+  module _ (fine : grounds1to15 d s ≡ Fine) where
+    -- 16 and 17 come before those that speak of the data
+    staged : (f : Finding) → f ≡ (of-lent else of-given) → answer f (cells F) ≡ admission d s e a
+    unfolding admission sendGrounds
+    staged f h =
+        ap (λ (x : Finding). answer x (cells F)) (h ∙ else-assoc (stateGround16 F (e .state .phase) (e .state .row)) (ground17 F (e .store) (a .room)) of-given)
+        ∙ sym (ap (λ (x : Finding). answer (x else sendGrounds F e a) (cells F)) fine)
+
+    -- refused by 16 or 17
+    pub by-lent : (n place : ℕ) → Ground n place ≡ of-lent → Refused n place ≡ admission d s e a
+    by-lent n place h = staged (Ground n place) (ap (λ (f : Finding). f else of-given) h)
+
+    -- left to 18 and 19
+    pub by-given : Fine ≡ of-lent → (f : Finding) → f ≡ of-given → answer f (cells F) ≡ admission d s e a
+    by-given h f g = staged f (g ∙ ap (λ (x : Finding). x else of-given) h)
+
+  -- what a return has to show of its answer, the store and the symbol
+  abbrev pub Shown : SendAnswer → List ℕ → List ℕ → Type 0
+  Shown r store out = leaves r store out ≡ sendStep d s e a
+
+  -- a step as a function of its findings
+  after : Finding → Sending
+  after f = elim f [ Fine ↦ accepted F e (a .given) | Ground n place ↦ steps.refused e a n place ]
+
+  merged : (f g : Finding) → after (f else g) ≡ elim f [ Fine ↦ after g | Ground n place ↦ steps.refused e a n place ]
+  unfolding after
+  merged Fine g = refl
+  merged (Ground n place) g = refl
+
+  found : (f : Finding) → f ≡ (grounds1to15 d s else sendGrounds F e a) → after f ≡ sendStep d s e a
+  unfolding sendStep frameStep after
+  found f h = ap after h ∙ merged (grounds1to15 d s) (sendGrounds F e a)
+
+  -- a refused step hands the state back and leaves the rest as it was
+  pub refused : (n place : ℕ) → Refused n place ≡ admission d s e a → Shown (a-send.Refused n place (e .state)) (e .store) (a .room)
+  unfolding admission after
+  refused n place h = found (Ground n place) (sym (refused-is (grounds1to15 d s else sendGrounds F e a) n place (cells F) h))
+
+  module _ (n : ℕ) (h : Accepted n ≡ admission d s e a) where
+    passed : ((grounds1to15 d s else sendGrounds F e a) ≡ Fine) × (n ≡ cells F)
+    unfolding admission
+    passed = accepted-is (grounds1to15 d s else sendGrounds F e a) n (cells F) h
+
+    -- grounds 16 and 17 are passed
+    pub fit : Lent F (e .state .phase) (e .state .row) (e .store) (a .room)
+    unfolding sendGrounds
+    fit =
+        let late = both-fine (stateGround16 F (e .state .phase) (e .state .row)) (ground17 F (e .store) (a .room) else of-given) (both-fine (grounds1to15 d s) (sendGrounds F e a) (passed .0) .1) in
+        lent F (e .state .phase) (e .state .row) (e .store) (a .room)
+        (λ i. sym (late .0) i else sym (both-fine (ground17 F (e .store) (a .room)) of-given (late .1) .0) i)
+
+    -- an accepted step: the row stored, the delayed cells placed, the state gone up
+    pub sent : (m k : ℕ) (x st out : List ℕ) (r : EmitterState) → m ≡ planOf s .depth → k ≡ n → x ≡ inputCells F (e .state .phase) (a .given)
+        → st ≡ putRow k (e .store) (e .state .row) x
+        → out ≡ lineSymbol F (delayed m k (λ p. p % m) (putRow k (e .store) (e .state .row) x) (e .state .row))
+        → r ≡ record { phase = (e .state .phase + 1) % phases; row = nextRow m (e .state .row) }
+        → Shown (a-send.Sent r) st out
+    unfolding after accepted sentSymbol sentStore nextState frameOf
+    sent m k x st out r em ek ex es eo er =
+        let all = ek ∙ passed .1 in
+        let put : putRow k (e .store) (e .state .row) x ≡ sentStore F e (a .given) = λ i. putRow (all i) (e .store) (e .state .row) (ex i) in
+        let sends : out ≡ sentSymbol F e (a .given) = eo ∙ (λ i. lineSymbol F (delayed (em i) (all i) (λ p. p % em i) (put i) (e .state .row))) in
+        let next : r ≡ nextState F (e .state) = er ∙ (λ i. record { phase = (e .state .phase + 1) % phases; row = nextRow (em i) (e .state .row) }) in
+        (λ i. leaves (a-send.Sent (next i)) ((es ∙ put) i) (sends i)) ∙ found Fine (sym (passed .0))

@@ -1,0 +1,198 @@
+-- `sendgrounds::admit_step` meets its contract: one law for each return. Assumes nothing.
+use borrow.Author.Needs.{needs}
+use Prim.Native.Nat.{ℕ, _≤_}
+use mathlib.Core.Path.{_≡_, refl, sym, ap, _∙_, subst}
+use mathlib.Core.List.{List, _++_}
+use native.Mathlib.Omega.{arith}
+use lib.ListN.{length, take, drop, replicate, length-replicate, List·getD-append}
+use lib.Seq.{length-take-le, length-front, take-at}
+use Rattle.rules.specs.declared.Finding.the-variants.{Fine, Ground}
+use Rattle.rules.specs.declared.CountAnswer.{CountAnswer}
+use Rattle.rules.specs.declared.Verdict.the-variants.{Accepted}
+use Rattle.rules.specs.Fits.{capacity}
+use Rattle.rules.specs.Plan.{planOf}
+use Rattle.rules.specs.Grounds.{_else_}
+use Rattle.rules.specs.Frame.{Frame, frameOf, dataCount}
+use Rattle.rules.specs.Steps.{Emitter, Send, stateGround16, ground17}
+use Rattle.spots.proofs.Frames.{cells-le}
+use Rattle.spots.proofs.Parts.{part-size}
+use Rattle.steps.specs.Ready.{Ready, Made, MadeIf}
+use Rattle.steps.proofs.Accepted.{cells-low}
+use Rattle.steps.proofs.Lent.{ready-count, ready-refused}
+use Rattle.sending.specs.Sent.{givenBy, at, giving}
+use Rattle.sendgrounds.proofs.Answers.{by-lent, by-given}
+use Rattle.sendgrounds.proofs.admit_step.Statement.{statement}
+use Rattle.sendgrounds.proofs.admit_step.Tie as tie
+
+-- the frame of the plan, and a step of such a store, data and symbol
+abbrev frame : tie.Start → Frame
+frame g = frameOf (g .args .d) (planOf (g .args .plan .now))
+
+abbrev emitter : tie.Start → List ℕ → Emitter
+emitter g store = at (g .args .state) store
+
+abbrev asked : tie.Start → List ℕ → List ℕ → Send
+asked g ds room = giving (givenBy (g .args .flushing) ds) room
+
+-- the cells fit the arrays, and the input symbol
+low : (g : tie.Start) → g .args .n ≤ capacity
+low g = let r = g .pre .0 in omega (arith, r .all, cells-low (g .args .d) (planOf (g .args .plan .now)) (r .fits))
+
+long : (g : tie.Start) → g .args .n ≤ length (g .args .x .now)
+unfolding frameOf
+long g = omega (arith, g .pre .0 .all, cells-le (frame g), g .pre .3)
+
+part : (g : tie.Start) → length (take (g .args .n) (g .args .x .now)) ≡ g .args .n
+part g = length-take-le (g .args .n) (g .args .x .now) (long g)
+
+-- grounds 16 and 17 are passed, and the number is N_D
+passed : (c : tie.After-nd) (s y : List ℕ) → let a = c .before .before .before .before .before .before .before .before .before .before .before .before .before .args in let F = frame (c .before .before .before .before .before .before .before .before .before .before .before .before .before) in length s ≡ a .places → length y ≡ a .width
+    → (Fine ≡ (stateGround16 F (a .state .phase) (a .state .row) else ground17 F s y)) × (c .nd .given .0 .0 ≡ dataCount F (a .state .phase))
+passed c s y es ey =
+    let g = c .before .before .before .before .before .before .before .before .before .before .before .before .before in
+    let a = g .args in
+    ready-count (frame g) (a .state .phase) (a .state .row) s y (a .state .phase) _ (sym (c .nd .given .1) ∙ c .before .before .before .before .ready .ensures .0 s y es ey)
+
+-- the subcarriers and flags are made
+made : (c : tie.After-nd) → let last = c .before .before .before .before .ready .last .1 .1 .1 .1 .1 .1 .1 .1 .1 in Made (frame (c .before .before .before .before .before .before .before .before .before .before .before .before .before)) (c .before .before .before .before .before .before .before .before .before .before .before .before .before .args .state .phase) (last .0) (last .1 .0) (last .1 .1 .0)
+made c =
+    let last = c .before .before .before .before .ready .last .1 .1 .1 .1 .1 .1 .1 .1 .1 in
+    let g = c .before .before .before .before .before .before .before .before .before .before .before .before .before in
+    subst (λ (r : CountAnswer). MadeIf r (frame g) (g .args .state .phase) (last .0) (last .1 .0) (last .1 .1 .0)) (c .nd .given .1) (c .before .before .before .before .ready .ensures .1)
+
+-- the flags are so many, in an array that is whole again
+flags : (c : tie.After-nd) → length (c .before .before .before .before .ready .last .1 .1 .1 .1 .1 .1 .1 .1 .1 .1 .1 .0) ≡ c .before .before .before .before .before .before .before .before .before .before .before .before .before .args .n
+flags c = c .before .before .before .before .ready .kept .1 .1 .1 .1 .1 .1 .1 .1 .1 .1 .1 .0 ∙ part-size _ (low (c .before .before .before .before .before .before .before .before .before .before .before .before .before))
+
+whole : (c : tie.After-nd) → length (c .before .before .before .before .ready .last .1 .1 .1 .1 .1 .1 .1 .1 .1 .1 .1 .0 ++ drop (c .before .before .before .before .before .before .before .before .before .before .before .before .before .args .n) (replicate capacity 0)) ≡ capacity
+whole c = length-front (replicate capacity 0) (c .before .before .before .before .ready .last .1 .1 .1 .1 .1 .1 .1 .1 .1 .1 .1 .0) (c .before .before .before .before .before .before .before .before .before .before .before .before .before .args .n) (c .before .before .before .before .ready .kept .1 .1 .1 .1 .1 .1 .1 .1 .1 .1 .1 .0) ∙ length-replicate {A = ℕ} capacity 0
+
+number-at-requires : tie.Need-number-at-requires
+number-at-requires c κs = search needs
+
+cast-j : tie.Need-cast-j
+cast-j c = search needs
+
+array-borrow-prefix-kc : tie.Need-array-borrow-prefix-kc
+array-borrow-prefix-kc c = low (c .before .before .before .before .before .before)
+
+slice-aggregate-ready : tie.Need-slice-aggregate-ready
+slice-aggregate-ready c = sym (part-size _ (low (c .before .before .before .before .before .before .before)))
+
+array-borrow-prefix-flag : tie.Need-array-borrow-prefix-flag
+array-borrow-prefix-flag c = low (c .before .before .before .before .before .before .before)
+
+slice-aggregate-ready-2 : tie.Need-slice-aggregate-ready-2
+slice-aggregate-ready-2 c = sym (part-size _ (low (c .before .before .before .before .before .before .before .before)))
+
+ready-requires : tie.Need-ready-requires
+unfolding planOf
+ready-requires c κs =
+    let g = c .before .before .before .before .before .before .before .before in
+    let a = g .args in
+    let depth = c .before .before .before .before .number-at .ensures in
+    (subst (λ (n : ℕ). Ready (a .d) (a .plan .now) n (a .marks .now)) (sym (part-size (a .n) (low g))) (g .pre .0), depth .0, depth .1, λ h. omega (arith, h), g .pre .2, refl)
+
+enum-known-g : tie.Need-enum-known-g
+enum-known-g c = search needs
+
+enum-known-nd : tie.Need-enum-known-nd
+enum-known-nd c = search needs
+
+cast-fill-in : tie.Need-cast-fill-in
+cast-fill-in c = search needs
+
+slice-aggregate-fill-in : tie.Need-slice-aggregate-fill-in
+slice-aggregate-fill-in c = sym (whole (c .before .before))
+
+slice-relend-prefix-fill-in : tie.Need-slice-relend-prefix-fill-in
+slice-relend-prefix-fill-in c = long (c .before .before .before .before .before .before .before .before .before .before .before .before .before .before .before)
+
+slice-aggregate-fill-in-2 : tie.Need-slice-aggregate-fill-in-2
+slice-aggregate-fill-in-2 c = sym (part (c .before .before .before .before .before .before .before .before .before .before .before .before .before .before .before .before))
+
+fill-in-requires : tie.Need-fill-in-requires
+fill-in-requires c κs =
+    let k = c .before .before .before in
+    let g = k .before .before .before .before .before .before .before .before .before .before .before .before .before in
+    let a = g .args in
+    let all = g .pre .0 .all in
+    let number = passed k (replicate (a .places) 0) (replicate (a .width) 0) (length-replicate (a .places) 0) (length-replicate (a .width) 0) .1 in (
+      g .pre .0 .fits,
+      part g ∙ all,
+      omega (arith, part g, low g, whole k),
+      λ p h. List·getD-append (k .before .before .before .before .ready .last .1 .1 .1 .1 .1 .1 .1 .1 .1 .1 .1 .0) (drop (a .n) (replicate capacity 0)) 0 p (omega (arith, h, all, flags k)) ∙ made k .flags p h,
+      number,
+      g .pre .1,
+    )
+
+enum-known-g-2 : tie.Need-enum-known-g-2
+enum-known-g-2 c = search needs
+
+enum-told : tie.Need-enum-told
+enum-told c = search needs
+
+returns : tie.Need-returns
+returns c store ds room es er t =
+    let g = c .before .before .before .before .before .before .before .before .before .before .before .before .before .before in
+    let a = g .args in (
+      by-lent (a .d) (a .plan .now) (emitter g store) (asked g ds room) (g .pre .0 .fine) _ _
+          (ready-refused (frame g) (a .state .phase) (a .state .row) store room (a .state .phase) _ _ (sym (c .before .g .given .1) ∙ c .before .before .before .before .before .ready .ensures .0 store room es er)),
+      tt,
+    )
+
+same-length : tie.Need-same-length
+same-length c = search needs
+
+returns-2 : tie.Need-returns-2
+returns-2 c store ds room es er t =
+    let g = c .before .before .before .before .before .before .before .before .before .before .before .before .before .before .before .before .before .before .before .before .before .before in (
+      by-given (g .args .d) (g .args .plan .now) (emitter g store) (asked g ds room) (g .pre .0 .fine) (passed (c .before .before .before .before .before .before .before .before .before) store room es er .0) (Ground _ _)
+          (sym (c .before .g2 .given .1) ∙ c .before .before .before .before .before .fill-in .ensures ds t .0),
+      tt,
+    )
+
+same-length-2 : tie.Need-same-length-2
+same-length-2 c = search needs
+
+returns-3 : tie.Need-returns-3
+returns-3 c store ds room es er t =
+    let g = c .before .before .before .before .before .before .before .before .before .before .before .before .before .before .before .before .before .before .before .before .before in
+    let k = c .before .before .before .before .before .before .before .before in
+    let all = g .pre .0 .all in
+    let x = c .before .before .before .before .fill-in in
+    let told = c .enum-told .given .1 in (
+      ap Accepted all ∙ by-given (g .args .d) (g .args .plan .now) (emitter g store) (asked g ds room) (g .pre .0 .fine) (passed k store room es er .0) Fine (sym told ∙ x .ensures ds t .0),
+      record {
+        ready = g .pre .0;
+        whole = k .before .before .before .before .ready .kept .1 .1 .1 .1 .1 .1 .1 .1 .1 .0 ∙ g .pre .2;
+        ranks = λ i h. made k .ranks i (omega (arith, h, all));
+        input = take-at (x .last .1 .1 .1 .1 .1 .1 .1 .1 .0) (drop (g .args .n) (g .args .x .now)) (g .args .n) (x .kept .1 .1 .1 .1 .1 .1 .1 .1 .0 ∙ part g) ∙ x .ensures ds t .1 told;
+      },
+    )
+
+pub admit-step-spec : {M : Type 1} → statement M
+admit-step-spec =
+    tie.close
+    (tie.spec
+    number-at-requires
+    cast-j
+    array-borrow-prefix-kc
+    slice-aggregate-ready
+    array-borrow-prefix-flag
+    slice-aggregate-ready-2
+    ready-requires
+    enum-known-g
+    enum-known-nd
+    cast-fill-in
+    slice-aggregate-fill-in
+    slice-relend-prefix-fill-in
+    slice-aggregate-fill-in-2
+    fill-in-requires
+    enum-known-g-2
+    enum-told
+    returns
+    same-length
+    returns-2
+    same-length-2
+    returns-3)

@@ -1,0 +1,4 @@
+pub mod Frames
+pub mod Plans
+pub mod Parts
+pub mod Accepted

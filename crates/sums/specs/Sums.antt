@@ -1,0 +1,12 @@
+-- The checksum of a list of numbers: a polynomial modulo a prime, so that their order counts. Assumes nothing.
+use Prim.Native.Nat.{ℕ, _+_, _*_, _%_}
+use mathlib.Core.List.{List, [], _∷_}
+
+-- the checksum with one number more; the modulus is the prime 2^31 - 1
+abbrev pub mix : ℕ → ℕ → ℕ
+mix sum x = (sum * 48271 + x) % 2147483647
+
+-- the checksum with the numbers of a list more, in their order
+abbrev pub mixAll : ℕ → List ℕ → ℕ
+mixAll sum [] = sum
+mixAll sum (x ∷ xs) = mixAll (mix sum x) xs
