@@ -38,7 +38,7 @@ extern "C" {
 #define HEADEND_SYMBOL_BYTES 8192u       /* a symbol: 4,096 cells */
 #define HEADEND_STORE_BYTES_MAX 239680u  /* the largest store: 32 rows of 3,745 cells; a plan needs 2 * M * N_I bytes */
 #define HEADEND_DATA_BYTES_MAX 7490u     /* more data cells than N_I no symbol has */
-#define HEADEND_STACK_BYTES 131072u      /* some 81,000 were measured */
+#define HEADEND_STACK_BYTES 131072u      /* some 73,000 were measured */
 
 /* Judges a plan. Value: N_I. Refuses by 1 to 15 and 21. */
 uint32_t headend_judge(const uint8_t *plan, size_t plan_len, uint8_t *answer, size_t answer_len);

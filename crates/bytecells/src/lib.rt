@@ -1,12 +1,11 @@
-// Cells as two bytes, high byte first: bytes of whole cells told from others, cells read and written. specs/ByteSteps says what an entry
-// over such cells answers and leaves.
+// Cells as two bytes, high byte first: bytes of whole cells told from others, and cells read; crate bytewrite writes them. specs/ByteSteps says
+// what an entry over such cells answers and leaves.
 ghost use mathlib.Core.Path.{_≡_};
 ghost use mathlib.Core.Bool.{false};
-ghost use Prim.Native.Nat.{_+_, _*_, _/_, _%_, _≤_, _<_};
-ghost use lib.ListN.{length, getD, replicate, take};
-ghost use lib.Seq.{sets};
+ghost use Prim.Native.Nat.{_+_, _*_, _≤_, _<_};
+ghost use lib.ListN.{length, getD, take};
 ghost use Rattle.counting.specs.Search.{tabulate};
-ghost use Rattle.bytecells.specs.Octets.{cellsOf, bytesOf, odd, Octets, Whole};
+ghost use Rattle.bytecells.specs.Octets.{cellsOf, odd, Octets, Whole};
 ghost use Rattle.bytecells.specs.Swapped.{lowFirst, swapped};
 
 // The cell of two bytes.
@@ -14,20 +13,6 @@ pub fn join(high: u8, low: u8) -> u16
     ensures { λ r. ⌜ r ≡ high * 256 + low ⌝ }
 {
     (high as u16) * 256 + (low as u16)
-}
-
-// The high byte of a cell.
-fn high_byte(x: u16) -> u8
-    ensures { λ r. ⌜ r ≡ x / 256 ⌝ }
-{
-    (x / 256) as u8
-}
-
-// The low byte of a cell.
-fn low_byte(x: u16) -> u8
-    ensures { λ r. ⌜ r ≡ x % 256 ⌝ }
-{
-    (x % 256) as u8
 }
 
 // A byte, which is below 256.
@@ -107,30 +92,4 @@ pub fn read_first(b: &[u8], cells: &mut [u16]) -> usize
         read_cells(b, &mut cells[..n]);
     }
     n
-}
-
-// Writes the cells x as bytes, from cell `at` on.
-pub fn write_cells(b: &mut [u8], at: usize, x: &[u16])
-    requires { ⌜ 2 * (at + length (now x)) ≤ length (now b) ⌝ }
-    ensures { λ _. ⌜ now (b .exit) ≡ sets (now (b .entry)) (2 * at) (bytesOf (now (x .entry))) ⌝ }
-{
-    let mut i = 0;
-    while i < x.len() {
-        b[2 * (at + i)] = high_byte(x[i]);
-        b[2 * (at + i) + 1] = low_byte(x[i]);
-        i += 1;
-    }
-}
-
-// Writes the cell x as bytes into the first n cells.
-pub fn write_same(b: &mut [u8], n: usize, x: u16)
-    requires { ⌜ 2 * n ≤ length (now b) ⌝ }
-    ensures { λ _. ⌜ now (b .exit) ≡ sets (now (b .entry)) 0 (bytesOf (replicate n x)) ⌝ }
-{
-    let mut i = 0;
-    while i < n {
-        b[2 * i] = high_byte(x);
-        b[2 * i + 1] = low_byte(x);
-        i += 1;
-    }
 }

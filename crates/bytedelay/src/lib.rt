@@ -103,7 +103,7 @@ pub fn delay(m: usize, row: usize, store: &mut [u8], cells: &mut [u16])
     ensures delayed { λ _. ⌜ now (cells .exit) ≡ delayed m (length (now (cells .entry))) (λ p. p % m) (putRow (length (now (cells .entry))) (cellsOf (now (store .entry))) row (now (cells .entry))) row ⌝ }
 {
     let n = cells.len();
-    bytecells::write_cells(store, row * n, cells);
+    bytewrite::write_cells(store, row * n, cells);
     lift(m, row, store, cells);
 }
 

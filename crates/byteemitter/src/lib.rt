@@ -24,7 +24,7 @@ fn place(d: Device, plan: &[u8], marks: &[u16; 4096], car: &[u16], x: &[u16], sy
 {
     let mut out = [0u16; 4096];
     line::place(d, plan, marks, car, x, &mut out);
-    bytecells::write_cells(symbol, 0, &out);
+    bytewrite::write_cells(symbol, 0, &out);
 }
 
 // An emit or flush step of bytes of whole cells; a flush reads no input. Where no ground refuses it, the input symbol goes into its row of the

@@ -24,12 +24,12 @@ pub fn fresh_rows(d: Device, plan: &[u8], j: usize, kc: &[u16], store: &mut [u8]
     let m = records::number_at(plan, 6);
     let n = kc.len();
     let mut x = [0u16; 4096];
-    bytecells::write_same(store, n, FILLER);
+    bytewrite::write_same(store, n, FILLER);
     let mut i: usize = 1;
     while i < m {
         let back = m - i;
         flushes::flush_cells(d, plan, m, (j + (PHASES - back)) % PHASES, kc, &mut x[..n]);
-        bytecells::write_cells(store, i * n, &x[..n]);
+        bytewrite::write_cells(store, i * n, &x[..n]);
         i = i + 1;
     }
 }

@@ -48,7 +48,7 @@ pub fn fresh_receiver(plan: &[u8], phase: u32, store: &mut [u8]) -> ListenAnswer
         Verdict::Refused(g, place) => ListenAnswer::Refused(g, place),
         Verdict::Accepted(n) => {
             let need = records::number_at(plan, 6) * (n as usize);
-            bytecells::write_same(store, need, FILLER);
+            bytewrite::write_same(store, need, FILLER);
             ListenAnswer::Started(ReceiverState {
                 phase,
                 row: 0,

@@ -50,7 +50,7 @@ fn take_in(
     ensures { λ _. ⌜ now (store .exit) ≡ bytesOf (putRow (cells (frameOf d (planOf (now (plan .entry))))) (cellsOf (now (store .entry))) row (lineCells (frameOf d (planOf (now (plan .entry)))) (now (y .entry)))) ⌝ }
 {
     arrivals::line_cells(d, plan, kc, y, x);
-    bytecells::write_cells(store, row * x.len(), x);
+    bytewrite::write_cells(store, row * x.len(), x);
 }
 
 // The input symbol m - 1 steps back is gathered in x, and its data goes to the buffer, by way of the cells given.
@@ -68,7 +68,7 @@ fn hand_out(
 {
     bytedelay::gather(m, row, store, x);
     taking::take_data(x, flag, given);
-    bytecells::write_cells(buffer, 0, given);
+    bytewrite::write_cells(buffer, 0, given);
 }
 
 // A step that no ground refuses, with nd data cells to hand out: kc are the subcarriers of the n cells, flag the flags of the placeholders

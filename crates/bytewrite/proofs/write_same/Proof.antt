@@ -1,4 +1,4 @@
--- `bytecells::write_same` meets its contract. The loop has written the first i cells. Assumes nothing.
+-- `bytewrite::write_same` meets its contract. The loop has written the first i cells. Assumes nothing.
 use borrow.Author.Needs.{needs}
 use Prim.Native.Nat.{ℕ, _-_, _≤_}
 use mathlib.Core.Path.{_≡_, refl, ap, _∙_}
@@ -6,10 +6,10 @@ use mathlib.Core.List.{List}
 use native.Mathlib.Omega.{arith}
 use lib.ListN.{length, take, getD, replicate, length-set, length-replicate, getD-replicate}
 use lib.Seq.{sets, take-all}
 use Rattle.bytecells.specs.Octets.{bytesOf}
 use Rattle.bytecells.proofs.OctetLaws.{no-cell, next-cell}
-use Rattle.bytecells.proofs.write_same.Statement.{statement}
-use Rattle.bytecells.proofs.write_same.Tie as tie
+use Rattle.bytewrite.proofs.write_same.Statement.{statement}
+use Rattle.bytewrite.proofs.write_same.Tie as tie
 
 abbrev Inv-loop : tie.InvT-loop
 Inv-loop b₀ n x i₀ b i = (i ≤ n) × (length b ≡ length b₀) × (b ≡ sets b₀ 0 (bytesOf (take i (replicate n x))))
