@@ -16,7 +16,7 @@ ghost use Rattle.rules.specs.Receive.{hears, outPhase, received, receiveStep};
 ghost use Rattle.fill.specs.Flags.{takenData};
 ghost use Rattle.bytecells.specs.Octets.{cellsOf, bytesOf, odd, Whole};
 ghost use Rattle.bytecells.specs.ByteSteps.{heardBytes, receiveBytes};
-ghost use Rattle.receivegrounds.specs.Admitted.{Admitted, Prepared, Spots};
+ghost use Rattle.receivegrounds.specs.InOrder.{ReceiveInOrder, Prepared, Spots};
 use receivegrounds::Admission;
 use rules::Device;
 use rules::ReceiveAnswer;
@@ -86,7 +86,7 @@ fn hear(
     store: &mut [u8],
     buffer: &mut [u8],
 ) -> ReceiveAnswer
-    requires { ⌜ Fits d × Whole (now store) × Whole (now buffer) × Admitted (frameOf d (planOf (now plan))) (record { state = state; store = cellsOf (now store) }) (record { symbol = now y; buffer = cellsOf (now buffer) }) m n nd × Prepared (frameOf d (planOf (now plan))) (outPhase (frameOf d (planOf (now plan))) (state .phase)) (now kc) (now flag) ⌝ }
+    requires { ⌜ Fits d × Whole (now store) × Whole (now buffer) × ReceiveInOrder (frameOf d (planOf (now plan))) (record { state = state; store = cellsOf (now store) }) (record { symbol = now y; buffer = cellsOf (now buffer) }) m n nd × Prepared (frameOf d (planOf (now plan))) (outPhase (frameOf d (planOf (now plan))) (state .phase)) (now kc) (now flag) ⌝ }
     ensures { λ r. ⌜ hears r (now (store .exit)) (now (buffer .exit)) ≡ heardBytes (received (frameOf d (planOf (now (plan .entry)))) (record { state = state; store = cellsOf (now (store .entry)) }) (record { symbol = now (y .entry); buffer = cellsOf (now (buffer .entry)) })) ⌝ }
 {
     let row = state.row as usize;

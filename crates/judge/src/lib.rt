@@ -1,8 +1,6 @@
-// The judge of plans and what stands on it: the verdict, the marks of an accepted plan, the role of a subcarrier, and how many are
-// scattered. The entries `judge`, `role` and `scattered_count` read the plan bytes anew, change nothing and ask nothing of their caller.
-// `judge_marks` asks for the array that it fills with marks.
+// The judge of plans and what stands on it: the verdict, the role of a subcarrier, and how many are scattered. The entries `judge`,
+// `role` and `scattered_count` read the plan bytes anew, change nothing and ask nothing of their caller.
 ghost use mathlib.Core.Path.{_≡_};
-ghost use lib.ListN.{length};
 ghost use Prim.Native.Nat.{_<_};
 ghost use Rattle.rules.specs.Device.{khz50, phases};
 ghost use Rattle.rules.specs.Plan.{planOf};
@@ -10,7 +8,7 @@ ghost use Rattle.rules.specs.Roles.{scatteredCount};
 ghost use Rattle.rules.specs.Grounds.{verdict};
 ghost use Rattle.rules.specs.Answers.{roleIn, roleAnswer, scatteredAnswer};
 ghost use Rattle.rules.specs.Fits.{Fits};
-ghost use Rattle.verdicts.specs.Studied.{Studied, MarksIf};
+ghost use Rattle.verdicts.specs.Studied.{Studied};
 use rules::CountAnswer;
 use rules::Device;
 use rules::RoleAnswer;
@@ -25,14 +23,6 @@ pub fn judge(plan: &[u8]) -> Verdict
 {
     let mut m = [0u16; 4096];
     verdicts::study(rules::khz50_device(), plan, &mut m)
-}
-
-// The verdict, and the marks of an accepted plan in the lent array: 0 where a subcarrier has a rank.
-pub fn judge_marks(plan: &[u8], m: &mut [u16; 4096]) -> Verdict
-    requires { ⌜ length (now m) ≡ 4096 ⌝ }
-    ensures { λ r. ⌜ (r ≡ verdict khz50 (now (plan .entry))) × MarksIf r khz50 (now (plan .entry)) (now (m .exit)) ⌝ }
-{
-    verdicts::study(rules::khz50_device(), plan, m)
 }
 
 // The role of subcarrier k of an accepted plan at a phase; ground 16 where one is out of its range.

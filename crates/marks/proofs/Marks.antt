@@ -8,21 +8,14 @@ use native.Mathlib.Omega.{arith}
 use lib.Dec.{eqb}
 use lib.ListN.{getD}
 use borrow.Author.Tests.{lt-ltb}
-use Rattle.counting.proofs.Lists.{is-tabulate}
 use Rattle.rules.specs.declared.Device.{Device}
 use Rattle.rules.specs.declared.Finding.the-variants.{Fine}
 use Rattle.rules.specs.Plan.{Plan}
 use Rattle.rules.specs.Bands.{excluded, active}
-use Rattle.rules.specs.Roles.{inPlc, continuous, ranked, mark, marks, firstMark}
+use Rattle.rules.specs.Roles.{inPlc, continuous, ranked, mark, firstMark}
 use Rattle.rules.specs.Grounds.{_else_, ground?, outside, aroundPlc, pilotClash}
-use Rattle.rules.specs.Fits.{capacity}
 use Rattle.roles.proofs.Testing.{mark-is}
 use Rattle.marks.specs.Marked.{Marked, grounds6to8}
-
--- the whole array is the list of marks, where the device has as many subcarriers as the array cells
-pub marks-are : (d : Device) (p : Plan) (m : List ℕ) → d .subcarriers ≡ capacity → Marked d p m → m ≡ marks d p
-unfolding marks
-marks-are d p m e w = is-tabulate m (d .subcarriers) (mark d p) (w .long ∙ sym e) (w .cell)
 
 -- a cell is 0 exactly if its subcarrier has a rank
 pub zero-ranked : (d : Device) (p : Plan) (m : List ℕ) → Marked d p m → (k : ℕ) → k < d .subcarriers → eqb (getD m k 0) 0 ≡ ranked d p k

@@ -16,7 +16,7 @@ use Rattle.rules.specs.Frame.{Frame, frameOf, cells, isData, dataCount}
 use Rattle.rules.specs.Receive.{Receiver, Arrival, Receiving, hears, turnedAway, outPhase, outCount, receiveGrounds, received, frameReceive, hearStep}
 use Rattle.receivegrounds.specs.declared.Admission.the-variants.{Admitted, Refused}
 use Rattle.receivegrounds.specs.Stages.{earlyGrounds, lateGrounds, answered, admission}
-use Rattle.receivegrounds.specs.Admitted as known
+use Rattle.receivegrounds.specs.InOrder.{ReceiveInOrder}
 use Rattle.receivegrounds.proofs.Stages.{fine-first, fine-last, early-heard, early-lent, late-room, in-stages}
 
 -- a finding answered by a refusal is that ground, answered by an admission is none
@@ -89,7 +89,7 @@ module _ (d : Device) (s : List ℕ) (v : Receiver) (a : Arrival) where
     none-refuses = found Fine (told .0)
 
     -- what the step relies on
-    pub admitted : frame .depth ≤ phases → known.Admitted frame v a m n nd
+    pub admitted : frame .depth ≤ phases → ReceiveInOrder frame v a m n nd
     unfolding frameOf cells dataCount
     admitted deep =
         let fine : Fine ≡ (grounds1to15 d s else receiveGrounds frame v a) = sym (told .0) in

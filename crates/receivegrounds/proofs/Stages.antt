@@ -25,7 +25,7 @@ use Rattle.verdicts.proofs.Verdicts.{else-assoc}
 use Rattle.steps.specs.Ready.{readyAnswer, Made, MadeIf}
 use Rattle.steps.proofs.Lent.{Lent, lent, told, told-count, told-refused, no-ground}
 use Rattle.receivegrounds.specs.Stages.{earlyGrounds, lateGrounds, earlyAnswer}
-use Rattle.receivegrounds.specs.Admitted.{Prepared}
+use Rattle.receivegrounds.specs.InOrder.{Prepared}
 
 -- where there is no ground among two findings, neither is one
 pub fine-first : (f g : Finding) → Fine ≡ (f else g) → Fine ≡ f

@@ -1,5 +1,5 @@
 // Whether a receive step is admitted: its grounds in order, 1 to 17 and 20, and what the step makes of the plan where none holds. The
-// receivers over cells and over two-byte cells share it. specs/Stages has the grounds by stages, specs/Admitted what is known where none holds.
+// receivers over cells and over two-byte cells share it. specs/Stages has the grounds by stages, specs/InOrder what is known where none holds.
 ghost use mathlib.Core.Path.{_≡_};
 ghost use mathlib.Core.List.{List};
 ghost use Prim.Native.Nat.{ℕ, _≤_, _<_};
@@ -14,7 +14,7 @@ ghost use Rattle.steps.specs.Ready.{Ready};
 ghost use Rattle.steps.specs.Begins.{Begins};
 ghost use Rattle.receivegrounds.specs.declared.Admission.the-variants.{Admitted};
 ghost use Rattle.receivegrounds.specs.Stages.{lateGrounds, earlyAnswer, answered, admission};
-ghost use Rattle.receivegrounds.specs.Admitted.{Prepared};
+ghost use Rattle.receivegrounds.specs.InOrder.{Prepared};
 use counting::Found;
 use rules::CountAnswer;
 use rules::Device;

@@ -12,7 +12,7 @@ ghost use Rattle.rules.specs.Frame.{frameOf, cells, lineCells};
 ghost use Rattle.rules.specs.Store.{putRow, delayed};
 ghost use Rattle.rules.specs.Receive.{hears, outPhase, received, receiveStep};
 ghost use Rattle.fill.specs.Flags.{takenData};
-ghost use Rattle.receivegrounds.specs.Admitted.{Admitted, Prepared, Spots};
+ghost use Rattle.receivegrounds.specs.InOrder.{ReceiveInOrder, Prepared, Spots};
 use receivegrounds::Admission;
 use rules::Device;
 use rules::ReceiveAnswer;
@@ -61,7 +61,7 @@ fn hear(
     store: &mut [u16],
     buffer: &mut [u16],
 ) -> ReceiveAnswer
-    requires { ⌜ Fits d × Admitted (frameOf d (planOf (now plan))) (record { state = state; store = now store }) (record { symbol = now symbol; buffer = now buffer }) m n nd × Prepared (frameOf d (planOf (now plan))) (outPhase (frameOf d (planOf (now plan))) (state .phase)) (now kc) (now flag) ⌝ }
+    requires { ⌜ Fits d × ReceiveInOrder (frameOf d (planOf (now plan))) (record { state = state; store = now store }) (record { symbol = now symbol; buffer = now buffer }) m n nd × Prepared (frameOf d (planOf (now plan))) (outPhase (frameOf d (planOf (now plan))) (state .phase)) (now kc) (now flag) ⌝ }
     ensures { λ r. ⌜ hears r (now (store .exit)) (now (buffer .exit)) ≡ received (frameOf d (planOf (now (plan .entry)))) (record { state = state; store = now (store .entry) }) (record { symbol = now (symbol .entry); buffer = now (buffer .entry) }) ⌝ }
 {
     let row = state.row as usize;

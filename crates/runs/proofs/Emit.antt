@@ -14,13 +14,13 @@ use Rattle.counting.proofs.Lists.{length-tabulate, getD-tabulate, getD-sets-0, 
 use Rattle.rules.specs.declared.Finding.the-variants.{Fine}
 use Rattle.rules.specs.Frame.{Frame, cells, delay, nextPhase, phaseBack, Given, flush, inputCells, lineSymbol}
 use Rattle.rules.specs.Store.{cellAt, freshCell, freshStore}
-use Rattle.rules.specs.Steps.{Emitter, Send, givenGrounds, sendGrounds, nextState, sentStore, sentSymbol, frameStep}
+use Rattle.rules.specs.Steps.{Emitter, Send, givenGrounds, sendGrounds, nextState, sentStore, sentSymbol}
 use Rattle.frame.specs.Counted.{phaseOf}
 use Rattle.frame.proofs.Cells.{Sound, length-input}
 use Rattle.delay.specs.Ring.{ringSent}
 use Rattle.delay.proofs.Ring.{late, early, length-ringSent, length-cells}
 use Rattle.runs.specs.Run.{acceptedSteps, input, sent}
-use Rattle.runs.proofs.Steps.{by-finding, fine-given, next, input-sent, input-ground, sent-symbol, sent-ground, FreshIn, freshEmitter}
+use Rattle.runs.proofs.Steps.{frameEntries, by-finding, fine-given, next, input-sent, input-ground, sent-symbol, sent-ground, FreshIn, freshEmitter}
 
 -- ---- a run is that of its accepted steps
 
@@ -55,7 +55,7 @@ inputs-at F j (g ∷ gs) hj (suc i) h =
 ringOf : Frame → Emitter → List Given → List (List ℕ)
 ringOf F e gs = ringSent (F .depth) (cells F) (delay F) (e .state .row) (e .store) (inputs F (e .state .phase) gs)
 
-sent-ring : (F : Frame) (e : Emitter) (steps : List Send) → sent (frameStep F) e steps ≡ map (lineSymbol F) (ringOf F e (input (frameStep F) e steps))
+sent-ring : (F : Frame) (e : Emitter) (steps : List Send) → sent (frameEntries F) e steps ≡ map (lineSymbol F) (ringOf F e (input (frameEntries F) e steps))
 unfolding sent input acceptedSteps ringOf ringSent inputs sentSymbol sentStore next nextState
 sent-ring F e [] = refl
 sent-ring F e (a ∷ rest) =
@@ -64,10 +64,10 @@ sent-ring F e (a ∷ rest) =
     (λ n place h. rw (sent-ground F e a rest n place h, input-ground F e a rest n place h) (sent-ring F e rest))
 
 -- each accepted step sends one symbol
-pub length-sent : (F : Frame) (e : Emitter) (steps : List Send) → length (sent (frameStep F) e steps) ≡ length (input (frameStep F) e steps)
+pub length-sent : (F : Frame) (e : Emitter) (steps : List Send) → length (sent (frameEntries F) e steps) ≡ length (input (frameEntries F) e steps)
 unfolding ringOf
 length-sent F e steps =
-    let gs : List Given = input (frameStep F) e steps in
+    let gs : List Given = input (frameEntries F) e steps in
     ap length (sent-ring F e steps) ∙ length-map (ringOf F e gs) (lineSymbol F)
     ∙ length-ringSent (F .depth) (cells F) (delay F) (e .state .row) (e .store) (inputs F (e .state .phase) gs)
     ∙ length-inputs F (e .state .phase) gs
@@ -82,13 +82,13 @@ fine-cons : (F : Frame) (j : ℕ) (g : Given) (gs : List Given) → j < F .phase
 fine-cons F j g gs hj h hs zero l = ap (λ (x : ℕ). givenGrounds F x g) (phase-first F j hj) ∙ h
 fine-cons F j g gs hj h hs (suc i) l = ap (λ (x : ℕ). givenGrounds F x (getD gs i flush)) (sym (phase-next F j i)) ∙ hs i (le-of-suc-le-suc l)
 
-input-all : (F : Frame) (e : Emitter) (steps : List Send) → e .state .phase < F .phases → AllFine F (e .state .phase) (input (frameStep F) e steps)
+input-all : (F : Frame) (e : Emitter) (steps : List Send) → e .state .phase < F .phases → AllFine F (e .state .phase) (input (frameEntries F) e steps)
 unfolding input acceptedSteps next nextState
 input-all F e [] hj = λ i h. absurd (not-suc-le-zero h)
 input-all F e (a ∷ rest) hj =
     by-finding (sendGrounds F e a)
     (λ h. rw (input-sent F e a rest h)
-    (fine-cons F (e .state .phase) (a .given) (input (frameStep F) (next F e (a .given)) rest) hj (fine-given F e a h)
+    (fine-cons F (e .state .phase) (a .given) (input (frameEntries F) (next F e (a .given)) rest) hj (fine-given F e a h)
     (input-all F (next F e (a .given)) rest (next-in F (e .state .phase) hj))))
     (λ n place h. rw (input-ground F e a rest n place h) (input-all F e rest hj))
 
@@ -187,15 +187,15 @@ module _ (F : Frame) (ok : Sound F) (j : ℕ) (hj : j < F .phases) (lent : List 
         let hi′ : i < length gs = rw n at hi in
         getD-map-in (lineSymbol F) ring i [] [] (rw length-ring hi′) ∙ ap (lineSymbol F) (ring-closed i hi′) ∙ sym (getD-tabulate _ (length gs) [] i hi′))
 
-  fresh-closed : (steps : List Send) → sent (frameStep F) (freshEmitter F j lent) steps ≡ closedSent F j (input (frameStep F) (freshEmitter F j lent) steps)
+  fresh-closed : (steps : List Send) → sent (frameEntries F) (freshEmitter F j lent) steps ≡ closedSent F j (input (frameEntries F) (freshEmitter F j lent) steps)
   unfolding freshEmitter ring ringOf
-  fresh-closed steps = sent-ring F (freshEmitter F j lent) steps ∙ ring-sent (input (frameStep F) (freshEmitter F j lent) steps)
+  fresh-closed steps = sent-ring F (freshEmitter F j lent) steps ∙ ring-sent (input (frameEntries F) (freshEmitter F j lent) steps)
 
 -- a run from a fresh start: what it sends, and that no ground refuses what it was given
 module _ (F : Frame) (j : ℕ) (e : Emitter) (fresh : FreshIn F j e) (steps : List Send) where
-  pub sent-closed : Sound F → sent (frameStep F) e steps ≡ closedSent F j (input (frameStep F) e steps)
+  pub sent-closed : Sound F → sent (frameEntries F) e steps ≡ closedSent F j (input (frameEntries F) e steps)
   sent-closed ok = rw (fresh .is-fresh) (fresh-closed F ok j (fresh .phase-in) (fresh .lent) (fresh .fits) steps)
 
-  pub input-fine : AllFine F j (input (frameStep F) e steps)
+  pub input-fine : AllFine F j (input (frameEntries F) e steps)
   unfolding freshEmitter
   input-fine = rw (fresh .is-fresh) (input-all F (freshEmitter F j (fresh .lent)) steps (fresh .phase-in))

@@ -18,12 +18,12 @@ use Rattle.rules.specs.declared.Finding.the-variants.{Fine}
 use Rattle.rules.specs.Plan.{Plan}
 use Rattle.rules.specs.Roles.{role, ranked, mark}
 use Rattle.rules.specs.Frame.{Frame, frameOf, cells, spot, holder, delay, phaseBack, held, isData, dataCount, Given, flush, symbol, dataList, inputCells, lineSymbol, filler, topData, fitsRole}
-use Rattle.rules.specs.Steps.{Emitter, Send, givenGrounds, frameStep}
+use Rattle.rules.specs.Steps.{Emitter, Send, givenGrounds}
 use Rattle.roles.proofs.Fitting.{cellFits, fits-role}
 use Rattle.frame.specs.Counted.{phaseOf}
 use Rattle.frame.proofs.Cells.{Sound, input-data, input-held, holder-below, spot-holder, line-ranked, line-unranked}
 use Rattle.runs.specs.Run.{input, sent}
-use Rattle.runs.proofs.Steps.{given-length, given-data, FreshIn}
+use Rattle.runs.proofs.Steps.{frameEntries, given-length, given-data, FreshIn}
 use Rattle.runs.proofs.Emit.{AllFine, givenBefore, closedCells, given-late, given-early, delay-below, length-sent, input-fine}
 use Rattle.runs.proofs.Places.{closed-at, sent-at}
 
@@ -77,12 +77,12 @@ module _ (F : Frame) (ok : Sound F) (j : ℕ) (gs : List Given) where
       (λ r. rw (r, line-unranked F (ok .key-inj) (closedCells F j gs i) k hk r) (eq-eqb (F .mark k) (F .mark k) refl))
 
 -- every cell of every symbol of a run from a fresh start
-pub fitting : (d : Device) (p : Plan) → Sound (frameOf d p) → (j : ℕ) (e : Emitter) → FreshIn (frameOf d p) j e → (steps : List Send) (n k : ℕ) → n < length (sent (frameStep (frameOf d p)) e steps) → k < d .subcarriers
-    → fitsRole (role d p (phaseOf (frameOf d p) j n) k) (getD (getD (sent (frameStep (frameOf d p)) e steps) n []) k 0) ≡ true
+pub fitting : (d : Device) (p : Plan) → Sound (frameOf d p) → (j : ℕ) (e : Emitter) → FreshIn (frameOf d p) j e → (steps : List Send) (n k : ℕ) → n < length (sent (frameEntries (frameOf d p)) e steps) → k < d .subcarriers
+    → fitsRole (role d p (phaseOf (frameOf d p) j n) k) (getD (getD (sent (frameEntries (frameOf d p)) e steps) n []) k 0) ≡ true
 fitting d p ok j e fresh steps n k hn hk =
     let F : Frame = frameOf d p in
-    let gs : List Given = input (frameStep F) e steps in
+    let gs : List Given = input (frameEntries F) e steps in
     let hi : n < length gs = omega (arith, length-sent F e steps) in
-    sym (fits-role d p (phaseOf F j n) k (getD (getD (sent (frameStep F) e steps) n []) k 0) hk)
+    sym (fits-role d p (phaseOf F j n) k (getD (getD (sent (frameEntries F) e steps) n []) k 0) hk)
     ∙ ap (λ (y : List ℕ). cellFits F (phaseOf F j n) k (getD y k 0)) (sent-at F ok j e fresh steps n hi)
     ∙ closed-fits F ok j gs (input-fine F j e fresh steps) n k hi (unfold frameOf in hk)

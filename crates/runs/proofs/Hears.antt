@@ -11,24 +11,20 @@ use borrow.Author.Tests.{ltb-false}
 use Rattle.counting.specs.Search.{pick}
 use Rattle.counting.proofs.Bools.{neither, by-test}
 use Rattle.counting.proofs.Lists.{getD-sets-0}
-use Rattle.rules.specs.declared.Device.{Device}
 use Rattle.rules.specs.declared.Finding.{Finding}
 use Rattle.rules.specs.declared.Finding.the-variants.{Fine, Ground}
 use Rattle.rules.specs.declared.ReceiverState.{ReceiverState}
-use Rattle.rules.specs.declared.ListenAnswer.{ListenAnswer}
 use Rattle.rules.specs.declared.ListenAnswer.the-variants as a-start
-use Rattle.rules.specs.Plan.{planOf}
-use Rattle.rules.specs.Grounds.{grounds1to15}
-use Rattle.rules.specs.Frame.{Frame, frameOf, cells}
+use Rattle.rules.specs.Frame.{Frame, cells}
 use Rattle.rules.specs.Store.{fillerStore}
 use Rattle.rules.specs.Steps.{shortStore}
 use Rattle.rules.specs.Receive as receive
-use Rattle.rules.specs.Receive.{Receiver, Arrival, Receiving, Listening, listens, turnedAway, outCount, shortBuffer, receiverGround16, receiverGround17, ground20, receiveGrounds, heardState, heardStore, received, frameReceive, frameListen, hearStep, listenStep}
+use Rattle.rules.specs.Receive.{Receiver, Arrival, Receiving, Listening, listens, turnedAway, outCount, shortBuffer, receiverGround16, receiverGround17, ground20, receiveGrounds, heardState, heardStore, received, frameReceive, frameListen}
 use Rattle.records.proofs.RecordLaws.{both-fine}
 use Rattle.facts.proofs.Accepted.{when-fine}
 use Rattle.frame.proofs.Cells.{length-data}
-use Rattle.runs.specs.Run.{acceptedSteps, afterSteps, isReceived, Told, warming, handed, toldBy, receivings, heard, told, receiverAfter, FreshReceiver}
-use Rattle.runs.proofs.Steps.{not-refused}
+use Rattle.runs.specs.Run.{acceptedSteps, afterSteps, isReceived, Told, warming, handed, toldBy, receivings, heard, told, receiverAfter, isListening, FreshReceiver}
+use Rattle.runs.proofs.Steps.{frameEntries, not-refused}
 
 -- what was stored from the start on is what stands there
 take-sets : (b xs : List ℕ) (n : ℕ) → length xs ≡ n → n ≤ length b → take n (sets b 0 xs) ≡ xs
@@ -81,35 +77,35 @@ module _ (F : Frame) (v : Receiver) (a : Arrival) where
       (λ q. rw q (ap (handed (outCount F (v .state))) (take-sets (a .buffer) (receive.handed F v (a .symbol)) (outCount F (v .state)) (length-data F _ _) (buffer-fits h q))))
 
   module _ (rest : List Arrival) where
-    pub heard-fine : receiveGrounds F v a ≡ Fine → heard (frameReceive F) v (a ∷ rest) ≡ a .symbol ∷ heard (frameReceive F) (nextHeard F v (a .symbol)) rest
+    pub heard-fine : receiveGrounds F v a ≡ Fine → heard (frameEntries F) v (a ∷ rest) ≡ a .symbol ∷ heard (frameEntries F) (nextHeard F v (a .symbol)) rest
     unfolding heard acceptedSteps received nextHeard
     heard-fine h = by-test (receive.warming F (v .state)) (λ q. rw (step-fine h, q) refl) (λ q. rw (step-fine h, q) refl)
 
-    pub heard-ground : (n place : ℕ) → receiveGrounds F v a ≡ Ground n place → heard (frameReceive F) v (a ∷ rest) ≡ heard (frameReceive F) v rest
+    pub heard-ground : (n place : ℕ) → receiveGrounds F v a ≡ Ground n place → heard (frameEntries F) v (a ∷ rest) ≡ heard (frameEntries F) v rest
     unfolding heard acceptedSteps
     heard-ground n place h = rw (step-ground n place h) refl
 
     pub told-fine : receiveGrounds F v a ≡ Fine
-        → told (frameReceive F) v (a ∷ rest) ≡ tells F (v .state) (receive.handed F v (a .symbol)) ∷ told (frameReceive F) (nextHeard F v (a .symbol)) rest
+        → told (frameEntries F) v (a ∷ rest) ≡ tells F (v .state) (receive.handed F v (a .symbol)) ∷ told (frameEntries F) (nextHeard F v (a .symbol)) rest
     unfolding told acceptedSteps received nextHeard
     told-fine h = rw (← tells-handed h) (by-test (receive.warming F (v .state)) (λ q. rw (step-fine h, q) refl) (λ q. rw (step-fine h, q) refl))
 
-    pub told-ground : (n place : ℕ) → receiveGrounds F v a ≡ Ground n place → told (frameReceive F) v (a ∷ rest) ≡ told (frameReceive F) v rest
+    pub told-ground : (n place : ℕ) → receiveGrounds F v a ≡ Ground n place → told (frameEntries F) v (a ∷ rest) ≡ told (frameEntries F) v rest
     unfolding told acceptedSteps
     told-ground n place h = rw (step-ground n place h) refl
 
-    pub after-fine : receiveGrounds F v a ≡ Fine → receiverAfter (frameReceive F) v (a ∷ rest) ≡ receiverAfter (frameReceive F) (nextHeard F v (a .symbol)) rest
+    pub after-fine : receiveGrounds F v a ≡ Fine → receiverAfter (frameEntries F) v (a ∷ rest) ≡ receiverAfter (frameEntries F) (nextHeard F v (a .symbol)) rest
     unfolding afterSteps received nextHeard
     after-fine h = by-test (receive.warming F (v .state)) (λ q. rw (step-fine h, q) refl) (λ q. rw (step-fine h, q) refl)
 
-    pub after-ground : (n place : ℕ) → receiveGrounds F v a ≡ Ground n place → receiverAfter (frameReceive F) v (a ∷ rest) ≡ receiverAfter (frameReceive F) v rest
+    pub after-ground : (n place : ℕ) → receiveGrounds F v a ≡ Ground n place → receiverAfter (frameEntries F) v (a ∷ rest) ≡ receiverAfter (frameEntries F) v rest
     unfolding afterSteps
     after-ground n place h = rw (step-ground n place h) refl
 
 -- each accepted step tells something
-pub length-told : (F : Frame) (v : Receiver) (steps : List Arrival) → length (told (frameReceive F) v steps) ≡ length (heard (frameReceive F) v steps)
+pub length-told : (F : Frame) (v : Receiver) (steps : List Arrival) → length (told (frameEntries F) v steps) ≡ length (heard (frameEntries F) v steps)
 unfolding told heard
-length-told F v steps = length-map (receivings (frameReceive F) v steps) _ ∙ sym (length-map (receivings (frameReceive F) v steps) (λ x. x .0 .symbol))
+length-told F v steps = length-map (receivings (frameEntries F) v steps) _ ∙ sym (length-map (receivings (frameEntries F) v steps) (λ x. x .0 .symbol))
 
 -- ---- a fresh start
 
@@ -128,27 +124,12 @@ pub record ListensIn (F : Frame) (j : ℕ) (v : Receiver) : Type 0 where
 receiverIn : Receiver → Listening → Receiver
 receiverIn u x = elim (x .answer) [ a-start.Started e ↦ record { state = e; store = x .store } | a-start.Refused n place ↦ u ]
 
-isStarted : ListenAnswer → Bool
-isStarted (a-start.Started e) = true
-isStarted (a-start.Refused n place) = false
-
 started : (F : Frame) (j : ℕ) (lent : List ℕ) (v : Receiver) → frameListen F j lent ≡ listens (a-start.Started (v .state)) (v .store) → ListensIn F j v
-unfolding frameListen receiverIn isStarted freshReceiver
+unfolding frameListen receiverIn freshReceiver
 started F j lent v s =
     let r = not-refused F j lent (listens (a-start.Started (record { phase = j; row = 0; heard = 0 })) (fillerStore F lent)) (λ n place. listens (a-start.Refused n place) lent)
-    (λ (x : Listening). isStarted (x .answer)) (listens (a-start.Started (v .state)) (v .store)) s refl (λ n place. refl) in
+    (λ (x : Listening). isListening (x .answer)) (listens (a-start.Started (v .state)) (v .store)) s refl (λ n place. refl) in
     record { lent = lent; phase-in = r .0 .phase-in; fits = r .0 .fits; is-fresh = sym (ap (receiverIn v) (r .1)) }
 
--- ---- a plan's bytes that no ground of 1 to 15 refuses
-
-module _ (d : Device) (s : List ℕ) (fine : grounds1to15 d s ≡ Fine) where
-  -- its receive steps are those of its frame
-  pub frame-hears : hearStep d s ≡ frameReceive (frameOf d (planOf s))
-  unfolding hearStep
-  frame-hears = λ i v a. elim (fine i) [ Fine ↦ frameReceive (frameOf d (planOf s)) v a | Ground n place ↦ turnedAway v a n place ]
-
-  pub listens-in : (j : ℕ) (v : Receiver) → FreshReceiver d s j v → ListensIn (frameOf d (planOf s)) j v
-  unfolding listenStep
-  listens-in j v f =
-      let left : Finding → Listening = λ x. elim x [ Fine ↦ frameListen (frameOf d (planOf s)) j (f .lent) | Ground n place ↦ listens (a-start.Refused n place) (f .lent) ] in
-      started (frameOf d (planOf s)) j (f .lent) v (sym (ap left fine) ∙ f .start)
+pub listens-in : (F : Frame) (j : ℕ) (v : Receiver) → FreshReceiver (frameEntries F) j v → ListensIn F j v
+listens-in F j v f = started F j (f .lent) v (f .start)

@@ -5,4 +5,5 @@ pub mod Places
 pub mod Fitting
 pub mod Unique
 pub mod Return
+pub mod Accepts
 pub mod Claims

@@ -17,13 +17,13 @@ use Rattle.rules.specs.Plan.{Plan}
 use Rattle.rules.specs.Bands.{excluded, active}
 use Rattle.rules.specs.Roles.{inPlc, continuous, scatteredAt, role, ranked}
 use Rattle.rules.specs.Frame.{Frame, frameOf, cells, spot, delay, phaseBack, held, isData, dataCount, Given, flush, symbol, dataList, inputCells, lineSymbol}
-use Rattle.rules.specs.Steps.{Emitter, Send, frameStep}
+use Rattle.rules.specs.Steps.{Emitter, Send}
 use Rattle.frame.specs.Counted.{phaseOf}
 use Rattle.frame.proofs.Cells.{Sound, data-cell, data-cell-held, data-cell-at, spot-below, spot-ranked, spot-inj, line-spot}
 use Rattle.roles.proofs.Testing.{role-is}
 use Rattle.runs.specs.Run.{input, sent}
 use Rattle.runs.specs.Demand3.{dataCell, sentNumber, Placed}
-use Rattle.runs.proofs.Steps.{given-length, FreshIn}
+use Rattle.runs.proofs.Steps.{frameEntries, given-length, FreshIn}
 use Rattle.runs.proofs.Emit.{givenBefore, closedCells, closedSent, given-late, delay-below, length-sent, sent-closed, input-fine}
 
 -- ---- the role of a place
@@ -77,27 +77,27 @@ module _ (F : Frame) (ok : Sound F) (j : ℕ) where
 
   module _ (e : Emitter) (fresh : FreshIn F j e) (steps : List Send) where
     -- sent symbol i
-    pub sent-at : (i : ℕ) → i < length (input (frameStep F) e steps)
-        → getD (sent (frameStep F) e steps) i [] ≡ lineSymbol F (closedCells F j (input (frameStep F) e steps) i)
+    pub sent-at : (i : ℕ) → i < length (input (frameEntries F) e steps)
+        → getD (sent (frameEntries F) e steps) i [] ≡ lineSymbol F (closedCells F j (input (frameEntries F) e steps) i)
     unfolding closedSent
     sent-at i h =
-        ap (λ (ys : List (List ℕ)). getD ys i []) (sent-closed F j e fresh steps ok) ∙ getD-tabulate _ (length (input (frameStep F) e steps)) [] i h
+        ap (λ (ys : List (List ℕ)). getD ys i []) (sent-closed F j e fresh steps ok) ∙ getD-tabulate _ (length (input (frameEntries F) e steps)) [] i h
 
     -- cell q of input t stands at its place
-    pub cell-stands : (t q : ℕ) → q < cells F → sentNumber F t q < length (input (frameStep F) e steps)
-        → getD (getD (sent (frameStep F) e steps) (sentNumber F t q) []) (spot F q) 0
-        ≡ getD (inputCells F (phaseOf F j t) (getD (input (frameStep F) e steps) t flush)) q 0
+    pub cell-stands : (t q : ℕ) → q < cells F → sentNumber F t q < length (input (frameEntries F) e steps)
+        → getD (getD (sent (frameEntries F) e steps) (sentNumber F t q) []) (spot F q) 0
+        ≡ getD (inputCells F (phaseOf F j t) (getD (input (frameEntries F) e steps) t flush)) q 0
     cell-stands t q hq h =
         ap (λ (y : List ℕ). getD y (spot F q) 0) (sent-at (sentNumber F t q) h)
-        ∙ line-spot F (ok .key-inj) _ q hq ∙ closed-later (input (frameStep F) e steps) t q hq
+        ∙ line-spot F (ok .key-inj) _ q hq ∙ closed-later (input (frameEntries F) e steps) t q hq
 
-    symbol-length : (t : ℕ) (ds : List ℕ) → t < length (input (frameStep F) e steps) → getD (input (frameStep F) e steps) t flush ≡ symbol ds
+    symbol-length : (t : ℕ) (ds : List ℕ) → t < length (input (frameEntries F) e steps) → getD (input (frameEntries F) e steps) t flush ≡ symbol ds
         → length ds ≡ dataCount F (phaseOf F j t)
     symbol-length t ds h is = given-length F (phaseOf F j t) ds (rw is at (input-fine F j e fresh steps t h))
 
-    number-stands : (t c : ℕ) (ds : List ℕ) → t < length (input (frameStep F) e steps) → getD (input (frameStep F) e steps) t flush ≡ symbol ds → c < length ds
-        → sentNumber F t (dataCell F j t c) < length (sent (frameStep F) e steps)
-        → getD (getD (sent (frameStep F) e steps) (sentNumber F t (dataCell F j t c)) []) (spot F (dataCell F j t c)) 0 ≡ getD ds c 0
+    number-stands : (t c : ℕ) (ds : List ℕ) → t < length (input (frameEntries F) e steps) → getD (input (frameEntries F) e steps) t flush ≡ symbol ds → c < length ds
+        → sentNumber F t (dataCell F j t c) < length (sent (frameEntries F) e steps)
+        → getD (getD (sent (frameEntries F) e steps) (sentNumber F t (dataCell F j t c)) []) (spot F (dataCell F j t c)) 0 ≡ getD ds c 0
     unfolding dataList
     number-stands t c ds h is l reached =
         let c′ : c < dataCount F (phaseOf F j t) = omega (arith, l, symbol-length t ds h is) in
@@ -108,7 +108,7 @@ module _ (F : Frame) (ok : Sound F) (j : ℕ) where
 -- ---- the claim, of a run under the frame of a plan
 
 pub placed : (d : Device) (p : Plan) → Sound (frameOf d p) → (j : ℕ) (e : Emitter) → FreshIn (frameOf d p) j e → (steps : List Send)
-    → Placed (frameOf d p) j (input (frameStep (frameOf d p)) e steps) (sent (frameStep (frameOf d p)) e steps)
+    → Placed (frameOf d p) j (input (frameEntries (frameOf d p)) e steps) (sent (frameEntries (frameOf d p)) e steps)
 unfolding frameOf
 placed d p ok j e fresh steps =
     let F : Frame = frameOf d p in

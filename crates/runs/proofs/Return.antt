@@ -18,7 +18,7 @@ use Rattle.rules.specs.declared.ReceiverState.{ReceiverState}
 use Rattle.rules.specs.Grounds.{_else_, ground?}
 use Rattle.rules.specs.Frame.{Frame, cells, spot, delay, nextPhase, dataCount, Given, flush, dataList, inputCells, dataOf, lineCells, fitsRole}
 use Rattle.rules.specs.Store.{nextRow, delayed, fillerStore}
-use Rattle.rules.specs.Steps.{Emitter, Send, shortStore, frameStep}
+use Rattle.rules.specs.Steps.{Emitter, Send, shortStore}
 use Rattle.rules.specs.Receive as receive
 use Rattle.rules.specs.Receive.{Receiver, Arrival, outPhase, outCount, shortBuffer, receiverGround16, receiverGround17, wrongCell, ground20, receiveGrounds, heardState, heardStore, rowsBack, frameReceive}
 use Rattle.delay.specs.Ring.{ringSent}
@@ -27,7 +27,7 @@ use Rattle.frame.specs.Counted.{phaseOf}
 use Rattle.frame.proofs.Cells.{Sound, data-back, length-line-cells, line-cell, length-line}
 use Rattle.runs.specs.Run.{acceptedSteps, afterSteps, input, sent, isReceived, Told, warming, handed, refused, heard, told, receiverAfter}
 use Rattle.runs.specs.Demand3.{dataCells, sentNumber, Follows, Returned}
-use Rattle.runs.proofs.Steps.{by-finding, list-length, FreshIn}
+use Rattle.runs.proofs.Steps.{frameEntries, by-finding, list-length, FreshIn}
 use Rattle.runs.proofs.Hears.{nextHeard, tells, fine-received, heard-fine, heard-ground, told-fine, told-ground, after-fine, after-ground, length-told, freshReceiver, ListensIn}
 use Rattle.runs.proofs.Emit.{closedCells, delay-below, length-sent, input-fine}
 use Rattle.runs.proofs.Places.{sent-at, cell-stands}
@@ -66,15 +66,15 @@ module _ (F : Frame) where
       rw (heard-on v i, e, ← mod-add-mod (v .phase + 1) (F .phases) i) refl
 
   told-ring : (v : Receiver) (steps : List Arrival) → v .state .phase < F .phases
-      → told (frameReceive F) v steps
-      ≡ tabulate (toldAt (v .state .phase) (v .state .heard) (taken (v .state .row) (v .store) (heard (frameReceive F) v steps))) (length (heard (frameReceive F) v steps))
+      → told (frameEntries F) v steps
+      ≡ tabulate (toldAt (v .state .phase) (v .state .heard) (taken (v .state .row) (v .store) (heard (frameEntries F) v steps))) (length (heard (frameEntries F) v steps))
   unfolding tabulate taken ringSent nextHeard heardState heardStore receive.handed
   told-ring v [] hj = unfold told heard acceptedSteps in refl
   told-ring v (a ∷ rest) hj =
       by-finding (receiveGrounds F v a)
       (λ h.
       let w : Receiver = nextHeard F v (a .symbol) in
-      let ys : List (List ℕ) = heard (frameReceive F) w rest in
+      let ys : List (List ℕ) = heard (frameEntries F) w rest in
       let zs : List (List ℕ) = taken (nextRow (F .depth) (v .state .row)) (heardStore F v (a .symbol)) ys in
       let z : List ℕ = delayed (F .depth) (cells F) (rowsBack F) (heardStore F v (a .symbol)) (v .state .row) in
       rw (told-fine F v a rest h, heard-fine F v a rest h)
@@ -106,13 +106,13 @@ tracks-next F j n v y pos t = record {
 }
 
 tracks-after : (F : Frame) (j n : ℕ) (v : Receiver) (steps : List Arrival) → 0 < F .depth → Tracks F j n v
-    → Tracks F j (n + length (heard (frameReceive F) v steps)) (receiverAfter (frameReceive F) v steps)
+    → Tracks F j (n + length (heard (frameEntries F) v steps)) (receiverAfter (frameEntries F) v steps)
 tracks-after F j n v [] pos t = unfold heard acceptedSteps afterSteps in (rw (add-zero n) t)
 tracks-after F j n v (a ∷ rest) pos t =
     by-finding (receiveGrounds F v a)
     (λ h.
     let w : Receiver = nextHeard F v (a .symbol) in
-    let e : n + suc (length (heard (frameReceive F) w rest)) ≡ suc n + length (heard (frameReceive F) w rest) = omega arith in
+    let e : n + suc (length (heard (frameEntries F) w rest)) ≡ suc n + length (heard (frameEntries F) w rest) = omega arith in
     rw (heard-fine F v a rest h, after-fine F v a rest h, e) (tracks-after F j (suc n) w rest pos (tracks-next F j n v (a .symbol) pos t)))
     (λ m place h. rw (heard-ground F v a rest m place h, after-ground F v a rest m place h) (tracks-after F j n v rest pos t))
 
@@ -158,13 +158,13 @@ out-phase F ok j t =
 
 module _ (F : Frame) (ok : Sound F) (j : ℕ) (e : Emitter) (fresh : FreshIn F j e) (steps : List Send) (lent : List ℕ) (fits : F .depth * cells F ≤ length lent) (arrivals : List Arrival) where
   gs : List Given
-  gs = input (frameStep F) e steps
+  gs = input (frameEntries F) e steps
 
   ys : List (List ℕ)
-  ys = sent (frameStep F) e steps
+  ys = sent (frameEntries F) e steps
 
   hs : List (List ℕ)
-  hs = heard (frameReceive F) (freshReceiver F j lent) arrivals
+  hs = heard (frameEntries F) (freshReceiver F j lent) arrivals
 
   -- the cells taken from the ring
   outs : List (List ℕ)
@@ -205,34 +205,34 @@ module _ (F : Frame) (ok : Sound F) (j : ℕ) (e : Emitter) (fresh : FreshIn F j
         (λ p hp. out-cell t p h hp)
 
     -- what step number i tells
-    told-at : (i : ℕ) → i < length hs → getD (told (frameReceive F) (freshReceiver F j lent) arrivals) i refused ≡ toldAt F j 0 outs i
+    told-at : (i : ℕ) → i < length hs → getD (told (frameEntries F) (freshReceiver F j lent) arrivals) i refused ≡ toldAt F j 0 outs i
     unfolding outs hs freshReceiver
     told-at i h =
         ap (λ (l : List Told). getD l i refused) (told-ring F (freshReceiver F j lent) arrivals (fresh .phase-in))
         ∙ getD-tabulate _ (length hs) refused i h
 
-    warms : (i : ℕ) → i < length hs → i < F .depth - 1 → getD (told (frameReceive F) (freshReceiver F j lent) arrivals) i refused ≡ warming
+    warms : (i : ℕ) → i < length hs → i < F .depth - 1 → getD (told (frameEntries F) (freshReceiver F j lent) arrivals) i refused ≡ warming
     unfolding toldAt
     warms i h l = told-at i h ∙ rw (zero-add i, lt-ltb i (F .depth - 1) l) refl
 
     back : (t : ℕ) → t + (F .depth - 1) < length hs
-        → getD (told (frameReceive F) (freshReceiver F j lent) arrivals) (t + (F .depth - 1)) refused ≡ handed (dataCells F j t) (dataList F (phaseOf F j t) (getD gs t flush))
+        → getD (told (frameEntries F) (freshReceiver F j lent) arrivals) (t + (F .depth - 1)) refused ≡ handed (dataCells F j t) (dataList F (phaseOf F j t) (getD gs t flush))
     unfolding toldAt
     back t h =
         told-at (t + (F .depth - 1)) h
         ∙ rw (zero-add (t + (F .depth - 1)), le-ltb (t + (F .depth - 1)) (F .depth - 1) (omega arith), out-phase F ok j t) (ap (handed (dataCells F j t)) (out-data t h))
 
-    tracks : Tracks F j (length hs) (receiverAfter (frameReceive F) (freshReceiver F j lent) arrivals)
+    tracks : Tracks F j (length hs) (receiverAfter (frameEntries F) (freshReceiver F j lent) arrivals)
     unfolding hs
     tracks = rw zero-add at (tracks-after F j 0 (freshReceiver F j lent) arrivals (ok .depth-pos) (tracks-fresh F j lent (fresh .phase-in) fits))
 
     module _ (fitting : (n k : ℕ) → n < length ys → k < F .width → fitsRole (F .role (phaseOf F j n) k) (getD (getD ys n []) k 0) ≡ true) where
       next : (a : Arrival) → length hs < length ys → a .symbol ≡ getD ys (length hs) []
           → (F .depth - 1 ≤ length hs → dataCells F j (length hs - (F .depth - 1)) ≤ length (a .buffer))
-          → isReceived (frameReceive F (receiverAfter (frameReceive F) (freshReceiver F j lent) arrivals) a .answer) ≡ true
+          → isReceived (frameReceive F (receiverAfter (frameEntries F) (freshReceiver F j lent) arrivals) a .answer) ≡ true
       unfolding ys gs
       next a h is room =
-          let w : Receiver = receiverAfter (frameReceive F) (freshReceiver F j lent) arrivals in
+          let w : Receiver = receiverAfter (frameEntries F) (freshReceiver F j lent) arrivals in
           let n : ℕ = length hs in
           let l : n < length gs = rw (length-sent F e steps) at h in
           let t = tracks in
@@ -251,15 +251,15 @@ module _ (F : Frame) (ok : Sound F) (j : ℕ) (e : Emitter) (fresh : FreshIn F j
               ap (λ (x : ℕ). dataCount F (outPhase F x)) (at ∙ ap (phaseOf F j) q) ∙ ap (dataCount F) (out-phase F ok j (n - (F .depth - 1))) in
               omega (arith, o, room c)
 
-      in-lent : Returned F (frameReceive F) j gs ys (freshReceiver F j lent) arrivals
+      in-lent : Returned F (frameEntries F) j gs ys (freshReceiver F j lent) arrivals
       unfolding hs
-      in-lent = record { each = length-told F (freshReceiver F j lent) arrivals; warms = warms; back = back; next = next }
+      in-lent = record { each = length-told F (freshReceiver F j lent) arrivals; warms = warms; back = back; next = λ a w b. next a }
 
 -- from a fresh start, if the sent symbols fit their roles
 pub returned : (F : Frame) → Sound F → (j : ℕ) (e : Emitter) → FreshIn F j e → (steps : List Send) (v : Receiver) → ListensIn F j v → (arrivals : List Arrival)
-    → ((n k : ℕ) → n < length (sent (frameStep F) e steps) → k < F .width → fitsRole (F .role (phaseOf F j n) k) (getD (getD (sent (frameStep F) e steps) n []) k 0) ≡ true)
-    → Follows (sent (frameStep F) e steps) (heard (frameReceive F) v arrivals)
-    → Returned F (frameReceive F) j (input (frameStep F) e steps) (sent (frameStep F) e steps) v arrivals
+    → ((n k : ℕ) → n < length (sent (frameEntries F) e steps) → k < F .width → fitsRole (F .role (phaseOf F j n) k) (getD (getD (sent (frameEntries F) e steps) n []) k 0) ≡ true)
+    → Follows (sent (frameEntries F) e steps) (heard (frameEntries F) v arrivals)
+    → Returned F (frameEntries F) j (input (frameEntries F) e steps) (sent (frameEntries F) e steps) v arrivals
 unfolding ys gs hs
 returned F ok j e fresh steps v listens arrivals fitting follows =
     rw (listens .is-fresh) (in-lent F ok j e fresh steps (listens .lent) (listens .fits) arrivals (rw (listens .is-fresh) at follows) fitting)

@@ -13,16 +13,17 @@ use Rattle.counting.proofs.Laws.{lowest-none}
 use Rattle.rules.specs.declared.Device.{Device}
 use Rattle.rules.specs.declared.Finding.{Finding}
 use Rattle.rules.specs.declared.Finding.the-variants.{Fine, Ground}
-use Rattle.rules.specs.declared.StartAnswer.{StartAnswer}
 use Rattle.rules.specs.declared.StartAnswer.the-variants as a-start
+use Rattle.rules.specs.declared.ListenAnswer.the-variants as a-listen
 use Rattle.rules.specs.Plan.{planOf}
 use Rattle.rules.specs.Grounds.{ground?, grounds1to15}
 use Rattle.rules.specs.Frame.{Frame, frameOf, cells, dataCount, Given, flush, symbol, dataList, filler, topData}
 use Rattle.rules.specs.Store.{freshStore}
 use Rattle.rules.specs.Steps.{Emitter, Send, Sending, Starting, starts, refused, ground16, shortStore, stateGround16, ground17, givenGrounds, sendGrounds, nextState, sentStore, sentSymbol, accepted, frameStep, startGrounds, frameStart, sendStep, startStep}
+use Rattle.rules.specs.Receive.{listens, turnedAway, frameReceive, frameListen, hearStep, listenStep}
 use Rattle.records.proofs.RecordLaws.{not-fine, both-fine}
 use Rattle.facts.proofs.Accepted.{when-fine}
-use Rattle.runs.specs.Run.{acceptedSteps, isSent, stateOf, input, sent, Fresh}
+use Rattle.runs.specs.Run.{acceptedSteps, afterSteps, Entries, cellEntries, readGiven, isSent, stateOf, input, sent, emitterAfter, isStarted, Fresh}
 
 -- ---- findings
 
@@ -58,6 +59,14 @@ module _ (F : Frame) (j : ℕ) where
   list-length (symbol ds) e = given-length ds e
 
 -- ---- one step
+
+-- the entries under an accepted plan whose frame is F
+abbrev pub frameEntries : Frame → Entries
+frameEntries F = record { start = frameStart F; send = frameStep F; listen = frameListen F; hear = frameReceive F; whole = λ x. true; read = λ x. x }
+
+as-given : (g : Given) → readGiven (λ x. x) g ≡ g
+as-given flush = refl
+as-given (symbol ds) = refl
 
 -- the emitter after an accepted step
 unfoldable pub next : Frame → Emitter → Given → Emitter
@@ -97,21 +106,29 @@ module _ (F : Frame) (e : Emitter) (a : Send) where
       (ap (λ (r : Sending). stateOf (r .answer)) s, ap (λ (r : Sending). r .store) s, ap (λ (r : Sending). r .symbol) s))
 
   module _ (rest : List Send) where
-    pub input-sent : sendGrounds F e a ≡ Fine → input (frameStep F) e (a ∷ rest) ≡ a .given ∷ input (frameStep F) (next F e (a .given)) rest
+    pub input-sent : sendGrounds F e a ≡ Fine → input (frameEntries F) e (a ∷ rest) ≡ a .given ∷ input (frameEntries F) (next F e (a .given)) rest
     unfolding input acceptedSteps accepted next
-    input-sent h = rw (step-fine h) refl
+    input-sent h = rw (step-fine h) (ap (λ (g : Given). g ∷ input (frameEntries F) (next F e (a .given)) rest) (as-given (a .given)))
 
-    pub input-ground : (n place : ℕ) → sendGrounds F e a ≡ Ground n place → input (frameStep F) e (a ∷ rest) ≡ input (frameStep F) e rest
+    pub input-ground : (n place : ℕ) → sendGrounds F e a ≡ Ground n place → input (frameEntries F) e (a ∷ rest) ≡ input (frameEntries F) e rest
     unfolding input acceptedSteps
     input-ground n place h = rw (step-ground n place h) refl
 
-    pub sent-symbol : sendGrounds F e a ≡ Fine → sent (frameStep F) e (a ∷ rest) ≡ sentSymbol F e (a .given) ∷ sent (frameStep F) (next F e (a .given)) rest
+    pub sent-symbol : sendGrounds F e a ≡ Fine → sent (frameEntries F) e (a ∷ rest) ≡ sentSymbol F e (a .given) ∷ sent (frameEntries F) (next F e (a .given)) rest
     unfolding sent acceptedSteps accepted next
     sent-symbol h = rw (step-fine h) refl
 
-    pub sent-ground : (n place : ℕ) → sendGrounds F e a ≡ Ground n place → sent (frameStep F) e (a ∷ rest) ≡ sent (frameStep F) e rest
+    pub sent-ground : (n place : ℕ) → sendGrounds F e a ≡ Ground n place → sent (frameEntries F) e (a ∷ rest) ≡ sent (frameEntries F) e rest
     unfolding sent acceptedSteps
     sent-ground n place h = rw (step-ground n place h) refl
+
+    pub after-sent : sendGrounds F e a ≡ Fine → emitterAfter (frameEntries F) e (a ∷ rest) ≡ emitterAfter (frameEntries F) (next F e (a .given)) rest
+    unfolding afterSteps accepted next
+    after-sent h = rw (step-fine h) refl
+
+    pub after-ground : (n place : ℕ) → sendGrounds F e a ≡ Ground n place → emitterAfter (frameEntries F) e (a ∷ rest) ≡ emitterAfter (frameEntries F) e rest
+    unfolding afterSteps
+    after-ground n place h = rw (step-ground n place h) refl
 
 -- ---- a fresh start
 
@@ -154,27 +171,26 @@ not-refused {T} F j lent made away started x e was never =
 emitterIn : Emitter → Starting → Emitter
 emitterIn u x = elim (x .answer) [ a-start.Started e ↦ record { state = e; store = x .store } | a-start.Refused n place ↦ u ]
 
-isStarted : StartAnswer → Bool
-isStarted (a-start.Started e) = true
-isStarted (a-start.Refused n place) = false
-
 started : (F : Frame) (j : ℕ) (lent : List ℕ) (e : Emitter) → frameStart F j lent ≡ starts (a-start.Started (e .state)) (e .store) → FreshIn F j e
-unfolding frameStart emitterIn isStarted freshEmitter
+unfolding frameStart emitterIn freshEmitter
 started F j lent e s =
     let r = not-refused F j lent (starts (a-start.Started (record { phase = j; row = 0 })) (freshStore F j lent)) (λ n place. starts (a-start.Refused n place) lent)
     (λ (x : Starting). isStarted (x .answer)) (starts (a-start.Started (e .state)) (e .store)) s refl (λ n place. refl) in
     record { lent = lent; phase-in = r .0 .phase-in; fits = r .0 .fits; is-fresh = sym (ap (emitterIn e) (r .1)) }
 
+pub fresh-in : (F : Frame) (j : ℕ) (e : Emitter) → Fresh (frameEntries F) j e → FreshIn F j e
+fresh-in F j e f = started F j (f .lent) e (f .start)
+
 -- ---- a plan's bytes that no ground of 1 to 15 refuses
 
-module _ (d : Device) (s : List ℕ) (fine : grounds1to15 d s ≡ Fine) where
-  -- its steps are those of its frame
-  pub frame-steps : sendStep d s ≡ frameStep (frameOf d (planOf s))
-  unfolding sendStep
-  frame-steps = λ i e a. elim (fine i) [ Fine ↦ frameStep (frameOf d (planOf s)) e a | Ground n place ↦ refused e a n place ]
-
-  pub fresh-in : (j : ℕ) (e : Emitter) → Fresh d s j e → FreshIn (frameOf d (planOf s)) j e
-  unfolding startStep
-  fresh-in j e f =
-      let left : Finding → Starting = λ x. elim x [ Fine ↦ frameStart (frameOf d (planOf s)) j (f .lent) | Ground n place ↦ starts (a-start.Refused n place) (f .lent) ] in
-      started (frameOf d (planOf s)) j (f .lent) e (sym (ap left fine) ∙ f .start)
+-- its entries are those of its frame
+pub frame-entries : (d : Device) (s : List ℕ) → grounds1to15 d s ≡ Fine → cellEntries d s ≡ frameEntries (frameOf d (planOf s))
+unfolding startStep sendStep listenStep hearStep
+frame-entries d s fine = λ i. record {
+  start = λ j lent. elim (fine i) [ Fine ↦ frameStart (frameOf d (planOf s)) j lent | Ground n place ↦ starts (a-start.Refused n place) lent ];
+  send = λ e a. elim (fine i) [ Fine ↦ frameStep (frameOf d (planOf s)) e a | Ground n place ↦ refused e a n place ];
+  listen = λ j lent. elim (fine i) [ Fine ↦ frameListen (frameOf d (planOf s)) j lent | Ground n place ↦ listens (a-listen.Refused n place) lent ];
+  hear = λ v a. elim (fine i) [ Fine ↦ frameReceive (frameOf d (planOf s)) v a | Ground n place ↦ turnedAway v a n place ];
+  whole = λ x. true;
+  read = λ x. x;
+}

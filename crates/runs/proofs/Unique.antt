@@ -11,12 +11,12 @@ use lib.Seq.{ext-getD}
 use Rattle.counting.specs.Search.{select}
 use Rattle.rules.specs.declared.Finding.the-variants.{Fine}
 use Rattle.rules.specs.Frame.{Frame, cells, spot, delay, isData, dataCount, Given, flush, symbol, dataList, inputCells, filler}
-use Rattle.rules.specs.Steps.{Emitter, Send, givenGrounds, frameStep}
+use Rattle.rules.specs.Steps.{Emitter, Send, givenGrounds}
 use Rattle.frame.specs.Counted.{phaseOf}
 use Rattle.frame.proofs.Cells.{Sound, data-cell, data-cell-at}
 use Rattle.runs.specs.Run.{input, sent}
 use Rattle.runs.specs.Demand3.{sentNumber, Flushed}
-use Rattle.runs.proofs.Steps.{given-length, given-data, list-length, FreshIn}
+use Rattle.runs.proofs.Steps.{frameEntries, given-length, given-data, list-length, FreshIn}
 use Rattle.runs.proofs.Emit.{closedSent, delay-below, length-sent, sent-closed, input-fine}
 use Rattle.runs.proofs.Places.{cell-stands}
 
@@ -52,12 +52,12 @@ module _ (F : Frame) (j : ℕ) (some : 1 ≤ dataCount F j) where
 module _ (F : Frame) (ok : Sound F) (some : (j : ℕ) → j < F .phases → 1 ≤ dataCount F j) (j : ℕ) (e e′ : Emitter) (fresh : FreshIn F j e) (fresh′ : FreshIn F j e′)
     (steps steps′ : List Send) where
   -- an input of which the runs reach every place
-  same-given : (i : ℕ) → sent (frameStep F) e steps ≡ sent (frameStep F) e′ steps′
-      → i + (F .depth - 1) < length (input (frameStep F) e steps) → i + (F .depth - 1) < length (input (frameStep F) e′ steps′)
-      → getD (input (frameStep F) e steps) i flush ≡ getD (input (frameStep F) e′ steps′) i flush
+  same-given : (i : ℕ) → sent (frameEntries F) e steps ≡ sent (frameEntries F) e′ steps′
+      → i + (F .depth - 1) < length (input (frameEntries F) e steps) → i + (F .depth - 1) < length (input (frameEntries F) e′ steps′)
+      → getD (input (frameEntries F) e steps) i flush ≡ getD (input (frameEntries F) e′ steps′) i flush
   same-given i same l l′ =
       given-inj F (phaseOf F j i) (some (phaseOf F j i) (mod-lt (j + i) (omega (arith, fresh .phase-in))))
-      (getD (input (frameStep F) e steps) i flush) (getD (input (frameStep F) e′ steps′) i flush)
+      (getD (input (frameEntries F) e steps) i flush) (getD (input (frameEntries F) e′ steps′) i flush)
       (input-fine F j e fresh steps i (omega arith)) (input-fine F j e′ fresh′ steps′ i (omega arith))
       (λ q hq.
       let d : delay F q < F .depth = delay-below F ok q in
@@ -65,15 +65,15 @@ module _ (F : Frame) (ok : Sound F) (some : (j : ℕ) → j < F .phases → 1 �
       ∙ ap (λ (ys : List (List ℕ)). getD (getD ys (sentNumber F i q) []) (spot F q) 0) same
       ∙ cell-stands F ok j e′ fresh′ steps′ i q hq (omega arith))
 
-  pub unique : Flushed (F .depth) (input (frameStep F) e steps) → Flushed (F .depth) (input (frameStep F) e′ steps′)
-      → (sent (frameStep F) e steps ≡ sent (frameStep F) e′ steps′) ↔ (input (frameStep F) e steps ≡ input (frameStep F) e′ steps′)
+  pub unique : Flushed (F .depth) (input (frameEntries F) e steps) → Flushed (F .depth) (input (frameEntries F) e′ steps′)
+      → (sent (frameEntries F) e steps ≡ sent (frameEntries F) e′ steps′) ↔ (input (frameEntries F) e steps ≡ input (frameEntries F) e′ steps′)
   unique flushed flushed′ = (
     λ same.
-        let n : length (input (frameStep F) e steps) ≡ length (input (frameStep F) e′ steps′) =
+        let n : length (input (frameEntries F) e steps) ≡ length (input (frameEntries F) e′ steps′) =
         sym (length-sent F e steps) ∙ ap length same ∙ length-sent F e′ steps′ in
-        ext-getD flush (input (frameStep F) e steps) (input (frameStep F) e′ steps′) n
+        ext-getD flush (input (frameEntries F) e steps) (input (frameEntries F) e′ steps′) n
         (λ i h.
-        by-cases (decLt (i + (F .depth - 1)) (length (input (frameStep F) e steps)))
+        by-cases (decLt (i + (F .depth - 1)) (length (input (frameEntries F) e steps)))
         (λ c. same-given i same c (omega arith))
         (λ c. flushed .last i (omega arith) h ∙ sym (flushed′ .last i (omega arith) (omega arith)))),
     λ same. sent-closed F j e fresh steps ok ∙ ap (closedSent F j) same ∙ sym (sent-closed F j e′ fresh′ steps′ ok),

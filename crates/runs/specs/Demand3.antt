@@ -1,4 +1,4 @@
--- Demand 3: one claim about whole runs from a fresh start, of a plan's bytes (document 01, "Cells and interleaving"). Statements only. Assumes nothing.
+-- Demand 3: one claim about whole runs from a fresh start (document 01, "Cells and interleaving"), of entries over cells or over bytes. Statements only. Assumes nothing.
 use Prim.Native.Nat.{ℕ, _+_, _-_, _≤_, _<_}
 use mathlib.Core.Path.{_≡_}
 use mathlib.Core.Logic.{_↔_}
@@ -6,14 +6,12 @@ use mathlib.Core.Bool.{true}
 use mathlib.Core.List.{List, []}
 use lib.ListN.{length, getD, take}
 use Rattle.counting.specs.Search.{select}
-use Rattle.rules.specs.declared.Device.{Device}
 use Rattle.rules.specs.declared.Role.the-variants.{Data}
-use Rattle.rules.specs.Plan.{planOf}
-use Rattle.rules.specs.Frame.{Frame, frameOf, cells, spot, delay, isData, dataCount, Given, flush, symbol, dataList}
-use Rattle.rules.specs.Steps.{Emitter, Send, sendStep}
-use Rattle.rules.specs.Receive.{Receiver, Arrival, hearStep}
+use Rattle.rules.specs.Frame.{Frame, cells, spot, delay, isData, dataCount, Given, flush, symbol, dataList}
+use Rattle.rules.specs.Steps.{Emitter, Send}
+use Rattle.rules.specs.Receive.{Receiver, Arrival}
 use Rattle.frame.specs.Counted.{phaseOf}
-use Rattle.runs.specs.Run.{input, sent, Fresh, ReceiverSteps, isReceived, warming, handed, refused, heard, told, receiverAfter, FreshReceiver}
+use Rattle.runs.specs.Run.{Entries, input, sent, Fresh, isReceived, warming, handed, refused, heard, told, receiverAfter, FreshReceiver}
 
 -- How many data cells input t has, from the starting phase j; `phaseOf F j t` is the phase of input t, and of sent symbol t.
 abbrev pub dataCells : Frame → ℕ → ℕ → ℕ
@@ -55,27 +53,27 @@ abbrev pub Follows : List (List ℕ) → List (List ℕ) → Type 0
 Follows ys hs = hs ≡ take (length hs) ys
 
 -- what the steps of a receiver v tell, if its run follows an emitter's with the input gs and the sent symbols ys
-pub record Returned (F : Frame) (step : ReceiverSteps) (j : ℕ) (gs : List Given) (ys : List (List ℕ)) (v : Receiver) (steps : List Arrival) : Type 0 where
+pub record Returned (F : Frame) (E : Entries) (j : ℕ) (gs : List Given) (ys : List (List ℕ)) (v : Receiver) (steps : List Arrival) : Type 0 where
   -- each accepted step tells something; numbers 0 to M - 2 answer warming
-  pub each : length (told step v steps) ≡ length (heard step v steps)
-  pub warms : (i : ℕ) → i < length (heard step v steps) → i < F .depth - 1 → getD (told step v steps) i refused ≡ warming
+  pub each : length (told E v steps) ≡ length (heard E v steps)
+  pub warms : (i : ℕ) → i < length (heard E v steps) → i < F .depth - 1 → getD (told E v steps) i refused ≡ warming
   -- number t + M - 1 answers data, with N_D of input t as its count, and hands out the data cells of input t in the order given, all filler for a flush
-  pub back : (t : ℕ) → t + (F .depth - 1) < length (heard step v steps)
-      → getD (told step v steps) (t + (F .depth - 1)) refused ≡ handed (dataCells F j t) (dataList F (phaseOf F j t) (getD gs t flush))
+  pub back : (t : ℕ) → t + (F .depth - 1) < length (heard E v steps)
+      → getD (told E v steps) (t + (F .depth - 1)) refused ≡ handed (dataCells F j t) (dataList F (phaseOf F j t) (getD gs t flush))
   -- one more step, given the next symbol sent and, unless it is to answer warming, a data buffer long enough, is not refused
-  pub next : (a : Arrival) → length (heard step v steps) < length ys → a .symbol ≡ getD ys (length (heard step v steps)) []
-      → (F .depth - 1 ≤ length (heard step v steps) → dataCells F j (length (heard step v steps) - (F .depth - 1)) ≤ length (a .buffer))
-      → isReceived (step (receiverAfter step v steps) a .answer) ≡ true
+  pub next : (a : Arrival) → E .whole (a .symbol) ≡ true → E .whole (a .buffer) ≡ true
+      → length (heard E v steps) < length ys → E .read (a .symbol) ≡ getD ys (length (heard E v steps)) []
+      → (F .depth - 1 ≤ length (heard E v steps) → dataCells F j (length (heard E v steps) - (F .depth - 1)) ≤ length (E .read (a .buffer)))
+      → isReceived (E .hear (receiverAfter E v steps) a .answer) ≡ true
 
--- demand 3 of a plan's bytes s
-pub record Demand3 (d : Device) (s : List ℕ) : Type 0 where
+-- demand 3 of runs through the entries E, under the plan whose frame is F
+pub record Demand3 (F : Frame) (E : Entries) : Type 0 where
   -- each data cell has one place of its own
-  pub placed : (j : ℕ) (e : Emitter) → Fresh d s j e → (steps : List Send) → Placed (frameOf d (planOf s)) j (input (sendStep d s) e steps) (sent (sendStep d s) e steps)
+  pub placed : (j : ℕ) (e : Emitter) → Fresh E j e → (steps : List Send) → Placed F j (input E e steps) (sent E e steps)
   -- two flushed runs send the same symbols exactly when their inputs are the same
-  pub unique : (j : ℕ) (e e′ : Emitter) → Fresh d s j e → Fresh d s j e′ → (steps steps′ : List Send)
-      → Flushed (planOf s .depth) (input (sendStep d s) e steps) → Flushed (planOf s .depth) (input (sendStep d s) e′ steps′)
-      → (sent (sendStep d s) e steps ≡ sent (sendStep d s) e′ steps′) ↔ (input (sendStep d s) e steps ≡ input (sendStep d s) e′ steps′)
+  pub unique : (j : ℕ) (e e′ : Emitter) → Fresh E j e → Fresh E j e′ → (steps steps′ : List Send)
+      → Flushed (F .depth) (input E e steps) → Flushed (F .depth) (input E e′ steps′)
+      → (sent E e steps ≡ sent E e′ steps′) ↔ (input E e steps ≡ input E e′ steps′)
   -- the receiver hands the input back
-  pub returned : (j : ℕ) (e : Emitter) (v : Receiver) → Fresh d s j e → FreshReceiver d s j v → (steps : List Send) (arrivals : List Arrival)
-      → Follows (sent (sendStep d s) e steps) (heard (hearStep d s) v arrivals)
-      → Returned (frameOf d (planOf s)) (hearStep d s) j (input (sendStep d s) e steps) (sent (sendStep d s) e steps) v arrivals
+  pub returned : (j : ℕ) (e : Emitter) (v : Receiver) → Fresh E j e → FreshReceiver E j v → (steps : List Send) (arrivals : List Arrival)
+      → Follows (sent E e steps) (heard E v arrivals) → Returned F E j (input E e steps) (sent E e steps) v arrivals

@@ -8,15 +8,17 @@ use Rattle.counting.specs.Search.{pick}
 use Rattle.rules.specs.declared.Device.{Device}
 use Rattle.rules.specs.declared.EmitterState.{EmitterState}
 use Rattle.rules.specs.declared.ReceiverState.{ReceiverState}
+use Rattle.rules.specs.declared.StartAnswer.{StartAnswer}
 use Rattle.rules.specs.declared.SendAnswer.{SendAnswer}
+use Rattle.rules.specs.declared.ListenAnswer.{ListenAnswer}
 use Rattle.rules.specs.declared.ReceiveAnswer.{ReceiveAnswer}
 use Rattle.rules.specs.declared.SendAnswer.the-variants as a-send
 use Rattle.rules.specs.declared.ReceiveAnswer.the-variants as an-answer
 use Rattle.rules.specs.declared.StartAnswer.the-variants as an-emitter
 use Rattle.rules.specs.declared.ListenAnswer.the-variants as a-receiver
-use Rattle.rules.specs.Frame.{Given}
-use Rattle.rules.specs.Steps.{Emitter, Send, Sending, starts, startStep}
-use Rattle.rules.specs.Receive.{Receiver, Arrival, Receiving, listens, listenStep}
+use Rattle.rules.specs.Frame.{Given, flush, symbol}
+use Rattle.rules.specs.Steps.{Emitter, Send, Sending, Starting, starts, startStep, sendStep}
+use Rattle.rules.specs.Receive.{Receiver, Arrival, Receiving, Listening, listens, listenStep, hearStep}
 
 -- ---- any run: how steps go, which are accepted, and what the next one is given
 
@@ -32,10 +34,27 @@ module _ {E A R : Type 0} (step : E → A → R) (left : R → E) where
   afterSteps e [] = e
   afterSteps e (a ∷ rest) = afterSteps (left (step e a)) rest
 
--- ---- an emitter's run: `sendStep d s` says how its steps go, for the device d and a plan's bytes s
+-- ---- what a run steps through
 
-abbrev pub EmitterSteps : Type 0
-EmitterSteps = Emitter → Send → Sending
+-- the entries that a caller uses, as functions, and how they take a list of the caller's numbers: whether it is one of whole cells, and its cells
+pub record Entries : Type 0 where
+  pub start : ℕ → List ℕ → Starting
+  pub send : Emitter → Send → Sending
+  pub listen : ℕ → List ℕ → Listening
+  pub hear : Receiver → Arrival → Receiving
+  pub whole : List ℕ → Bool
+  pub read : List ℕ → List ℕ
+
+-- the entries over cells, for the device d and a plan's bytes s: a number is a cell
+abbrev pub cellEntries : Device → List ℕ → Entries
+cellEntries d s = record { start = startStep d s; send = sendStep d s; listen = listenStep d s; hear = hearStep d s; whole = λ x. true; read = λ x. x }
+
+-- what a step was given, in cells
+abbrev pub readGiven : (List ℕ → List ℕ) → Given → Given
+readGiven read flush = flush
+readGiven read (symbol ds) = symbol (read ds)
+
+-- ---- an emitter's run
 
 -- an accepted step is one that no ground refuses
 abbrev pub isSent : SendAnswer → Bool
@@ -51,27 +70,32 @@ stateOf (a-send.Refused n place e) = e
 abbrev pub emitterLeft : Sending → Emitter
 emitterLeft r = record { state = stateOf (r .answer); store = r .store }
 
-module _ (step : EmitterSteps) (e : Emitter) (steps : List Send) where
+module _ (E : Entries) (e : Emitter) (steps : List Send) where
   abbrev pub sendings : List (Send × Sending)
-  sendings = acceptedSteps step (λ r. isSent (r .answer)) emitterLeft e steps
+  sendings = acceptedSteps (E .send) (λ r. isSent (r .answer)) emitterLeft e steps
 
   -- the run's input: what its accepted steps were given
   unfoldable pub input : List Given
-  input = map (λ x. x .0 .given) sendings
+  input = map (λ x. readGiven (E .read) (x .0 .given)) sendings
 
   -- the symbols sent: each accepted step sends one
   unfoldable pub sent : List (List ℕ)
-  sent = map (λ x. x .1 .symbol) sendings
+  sent = map (λ x. E .read (x .1 .symbol)) sendings
+
+  -- the emitter after the steps
+  abbrev pub emitterAfter : Emitter
+  emitterAfter = afterSteps (E .send) emitterLeft e steps
+
+abbrev pub isStarted : StartAnswer → Bool
+isStarted (an-emitter.Started e) = true
+isStarted (an-emitter.Refused n place) = false
 
 -- e is what a fresh start at phase j left, in some lent store
-pub record Fresh (d : Device) (s : List ℕ) (j : ℕ) (e : Emitter) : Type 0 where
+pub record Fresh (E : Entries) (j : ℕ) (e : Emitter) : Type 0 where
   pub lent : List ℕ
-  pub start : startStep d s j lent ≡ starts (an-emitter.Started (e .state)) (e .store)
+  pub start : E .start j lent ≡ starts (an-emitter.Started (e .state)) (e .store)
 
--- ---- a receiver's run: `hearStep d s` says how its steps go
-
-abbrev pub ReceiverSteps : Type 0
-ReceiverSteps = Receiver → Arrival → Receiving
+-- ---- a receiver's run
 
 abbrev pub isReceived : ReceiveAnswer → Bool
 isReceived (an-answer.Warming v) = true
@@ -97,23 +121,27 @@ toldBy (an-answer.Warming v) buffer = warming
 toldBy (an-answer.Data v n) buffer = handed n (take n buffer)
 toldBy (an-answer.Refused n place v) buffer = refused
 
-module _ (step : ReceiverSteps) (v : Receiver) (steps : List Arrival) where
+module _ (E : Entries) (v : Receiver) (steps : List Arrival) where
   abbrev pub receivings : List (Arrival × Receiving)
-  receivings = acceptedSteps step (λ r. isReceived (r .answer)) receiverLeft v steps
+  receivings = acceptedSteps (E .hear) (λ r. isReceived (r .answer)) receiverLeft v steps
 
   -- the symbols that the accepted steps were given
   unfoldable pub heard : List (List ℕ)
-  heard = map (λ x. x .0 .symbol) receivings
+  heard = map (λ x. E .read (x .0 .symbol)) receivings
 
   -- what they told
   unfoldable pub told : List Told
-  told = map (λ x. toldBy (x .1 .answer) (x .1 .buffer)) receivings
+  told = map (λ x. toldBy (x .1 .answer) (E .read (x .1 .buffer))) receivings
 
   -- the receiver after the steps
   abbrev pub receiverAfter : Receiver
-  receiverAfter = afterSteps step receiverLeft v steps
+  receiverAfter = afterSteps (E .hear) receiverLeft v steps
+
+abbrev pub isListening : ListenAnswer → Bool
+isListening (a-receiver.Started v) = true
+isListening (a-receiver.Refused n place) = false
 
 -- v is what a receiver's fresh start at phase j left, in some lent store
-pub record FreshReceiver (d : Device) (s : List ℕ) (j : ℕ) (v : Receiver) : Type 0 where
+pub record FreshReceiver (E : Entries) (j : ℕ) (v : Receiver) : Type 0 where
   pub lent : List ℕ
-  pub start : listenStep d s j lent ≡ listens (a-receiver.Started (v .state)) (v .store)
+  pub start : E .listen j lent ≡ listens (a-receiver.Started (v .state)) (v .store)

@@ -20,7 +20,7 @@ use Rattle.rules.specs.Steps.{Emitter, Send, Sending, leaves, stateGround16, gr
 use Rattle.records.proofs.RecordLaws.{both-fine}
 use Rattle.verdicts.proofs.Verdicts.{else-assoc, accepted-is, refused-is}
 use Rattle.steps.proofs.Lent.{Lent, lent}
-use Rattle.sendgrounds.specs.Admission.{admission}
+use Rattle.sendgrounds.specs.Opening.{sendVerdict}
 
 module _ (d : Device) (s : List ℕ) (e : Emitter) (a : Send) where
   abbrev F : Frame
@@ -34,24 +34,24 @@ module _ (d : Device) (s : List ℕ) (e : Emitter) (a : Send) where
   of-given = givenGrounds F (e .state .phase) (a .given)
 
   -- refused as the plan is
-  pub by-plan : (n place : ℕ) → grounds1to15 d s ≡ Ground n place → Refused n place ≡ admission d s e a
-  unfolding admission
+  pub by-plan : (n place : ℕ) → grounds1to15 d s ≡ Ground n place → Refused n place ≡ sendVerdict d s e a
+  unfolding sendVerdict
   by-plan n place h = sym (ap (λ (f : Finding). answer (f else sendGrounds F e a) (cells F)) h)
 
   module _ (fine : grounds1to15 d s ≡ Fine) where
     -- 16 and 17 come before those that speak of the data
-    staged : (f : Finding) → f ≡ (of-lent else of-given) → answer f (cells F) ≡ admission d s e a
-    unfolding admission sendGrounds
+    staged : (f : Finding) → f ≡ (of-lent else of-given) → answer f (cells F) ≡ sendVerdict d s e a
+    unfolding sendVerdict sendGrounds
     staged f h =
         ap (λ (x : Finding). answer x (cells F)) (h ∙ else-assoc (stateGround16 F (e .state .phase) (e .state .row)) (ground17 F (e .store) (a .room)) of-given)
         ∙ sym (ap (λ (x : Finding). answer (x else sendGrounds F e a) (cells F)) fine)
 
     -- refused by 16 or 17
-    pub by-lent : (n place : ℕ) → Ground n place ≡ of-lent → Refused n place ≡ admission d s e a
+    pub by-lent : (n place : ℕ) → Ground n place ≡ of-lent → Refused n place ≡ sendVerdict d s e a
     by-lent n place h = staged (Ground n place) (ap (λ (f : Finding). f else of-given) h)
 
     -- left to 18 and 19
-    pub by-given : Fine ≡ of-lent → (f : Finding) → f ≡ of-given → answer f (cells F) ≡ admission d s e a
+    pub by-given : Fine ≡ of-lent → (f : Finding) → f ≡ of-given → answer f (cells F) ≡ sendVerdict d s e a
     by-given h f g = staged f (g ∙ ap (λ (x : Finding). x else of-given) h)
 
   -- what a return has to show of its answer, the store and the symbol
@@ -72,13 +72,13 @@ module _ (d : Device) (s : List ℕ) (e : Emitter) (a : Send) where
   found f h = ap after h ∙ merged (grounds1to15 d s) (sendGrounds F e a)
 
   -- a refused step hands the state back and leaves the rest as it was
-  pub refused : (n place : ℕ) → Refused n place ≡ admission d s e a → Shown (a-send.Refused n place (e .state)) (e .store) (a .room)
-  unfolding admission after
+  pub refused : (n place : ℕ) → Refused n place ≡ sendVerdict d s e a → Shown (a-send.Refused n place (e .state)) (e .store) (a .room)
+  unfolding sendVerdict after
   refused n place h = found (Ground n place) (sym (refused-is (grounds1to15 d s else sendGrounds F e a) n place (cells F) h))
 
-  module _ (n : ℕ) (h : Accepted n ≡ admission d s e a) where
+  module _ (n : ℕ) (h : Accepted n ≡ sendVerdict d s e a) where
     passed : ((grounds1to15 d s else sendGrounds F e a) ≡ Fine) × (n ≡ cells F)
-    unfolding admission
+    unfolding sendVerdict
     passed = accepted-is (grounds1to15 d s else sendGrounds F e a) n (cells F) h
 
     -- grounds 16 and 17 are passed

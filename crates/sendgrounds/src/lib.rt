@@ -1,5 +1,5 @@
 // The opening of a sending step, for every form of its cells: grounds 1 to 19 and, where none holds, what the rest of the step works with.
-// specs/Admission says which steps are admitted.
+// specs/Opening says which steps no ground refuses.
 ghost use mathlib.Core.Path.{_≡_};
 ghost use mathlib.Core.List.{List};
 ghost use Prim.Native.Nat.{ℕ, _≤_};
@@ -9,7 +9,7 @@ ghost use Rattle.rules.specs.Fits.{Fits};
 ghost use Rattle.steps.specs.Ready.{Ready};
 ghost use Rattle.steps.specs.Begins.{Begins};
 ghost use Rattle.sending.specs.Sent.{givenBy, at, giving};
-ghost use Rattle.sendgrounds.specs.Admission.{Admits};
+ghost use Rattle.sendgrounds.specs.Opening.{SendOpens};
 use rules::CountAnswer;
 use rules::Device;
 use rules::EmitterState;
@@ -32,7 +32,7 @@ fn admit_step(
     x: &mut [u16],
 ) -> Verdict
     requires { ⌜ Ready d (now plan) n (now marks) × (number ≤ d .subcarriers → number ≤ length (now given)) × (length (now car) ≡ 4096) × (d .subcarriers ≤ length (now x)) ⌝ }
-    ensures { λ r. ⌜ ((store ds room : List ℕ) → length store ≡ places → length room ≡ width → Begins (now (given .entry)) number ds → Admits r d (now (plan .entry)) (at state store) (giving (givenBy flushing ds) room) (now (marks .entry)) (now (car .exit)) (now (x .exit))) ⌝ }
+    ensures { λ r. ⌜ ((store ds room : List ℕ) → length store ≡ places → length room ≡ width → Begins (now (given .entry)) number ds → SendOpens r d (now (plan .entry)) (at state store) (giving (givenBy flushing ds) room) (now (marks .entry)) (now (car .exit)) (now (x .exit))) ⌝ }
 {
     let ni = n as usize;
     let m = records::number_at(plan, 6);
@@ -88,7 +88,7 @@ pub fn admit(
     x: &mut [u16],
 ) -> Verdict
     requires { ⌜ Fits d × (d .depthMax ≤ phases) × (number ≤ d .subcarriers → number ≤ length (now given)) × (length (now marks) ≡ 4096) × (length (now car) ≡ 4096) × (d .subcarriers ≤ length (now x)) ⌝ }
-    ensures { λ r. ⌜ ((store ds room : List ℕ) → length store ≡ places → length room ≡ width → Begins (now (given .entry)) number ds → Admits r d (now (plan .entry)) (at state store) (giving (givenBy flushing ds) room) (now (marks .exit)) (now (car .exit)) (now (x .exit))) ⌝ }
+    ensures { λ r. ⌜ ((store ds room : List ℕ) → length store ≡ places → length room ≡ width → Begins (now (given .entry)) number ds → SendOpens r d (now (plan .entry)) (at state store) (giving (givenBy flushing ds) room) (now (marks .exit)) (now (car .exit)) (now (x .exit))) ⌝ }
 {
     match verdicts::study(d, plan, marks) {
         Verdict::Refused(g, place) => Verdict::Refused(g, place),

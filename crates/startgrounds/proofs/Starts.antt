@@ -76,7 +76,7 @@ unfolding frameOf
 few d s n fits e = omega (arith, e, cells-le (frameOf d (planOf s)), fits .few)
 
 -- what is known of a plan and a store where no ground of 1 to 17 holds
-pub record Admitted (d : Device) (s : List ℕ) (j : ℕ) (store : List ℕ) (n : ℕ) : Type 0 where
+pub record StartInOrder (d : Device) (s : List ℕ) (j : ℕ) (store : List ℕ) (n : ℕ) : Type 0 where
   pub fine : grounds1to15 d s ≡ Fine
   pub long : 8 ≤ length s
   pub all : n ≡ cells (frameOf d (planOf s))
@@ -123,7 +123,7 @@ module _ (d : Device) (s : List ℕ) (j : ℕ) (store : List ℕ) where
   unfolding startVerdict
   accepted n e = accepted-is (grounds1to15 d s else startGrounds (frameOf d (planOf s)) j store) n (cells (frameOf d (planOf s))) e
 
-  pub admitted : (n : ℕ) → Accepted n ≡ startVerdict d s j store → Admitted d s j store n
+  pub admitted : (n : ℕ) → Accepted n ≡ startVerdict d s j store → StartInOrder d s j store n
   unfolding frameOf
   admitted n e =
       let a = accepted n e in
@@ -170,7 +170,7 @@ module _ (d : Device) (s : List ℕ) (j : ℕ) (store : List ℕ) where
 
   -- ---- what an emitter's rows are made from, once the first n places hold the subcarriers of the n cells
 
-  made-from : (n : ℕ) (marks kc : List ℕ) → Fits d → d .depthMax ≤ phases → Admitted d s j store n → Studied d s marks → length kc ≡ n
+  made-from : (n : ℕ) (marks kc : List ℕ) → Fits d → d .depthMax ≤ phases → StartInOrder d s j store n → Studied d s marks → length kc ≡ n
       → ((p : ℕ) → p < n → getD kc p 0 ≡ spot (frameOf d (planOf s)) p) → Spotted d s kc
   made-from n marks kc fits deep a w en made =
       let depth = depth-in d s (a .fine) in
@@ -185,6 +185,6 @@ module _ (d : Device) (s : List ℕ) (j : ℕ) (store : List ℕ) where
         spots = λ p h. made p (omega (arith, h, en));
       }
 
-  pub spotted : (n : ℕ) (marks kc rest : List ℕ) → Fits d → d .depthMax ≤ phases → Admitted d s j store n → Studied d s marks → length kc ≡ n
+  pub spotted : (n : ℕ) (marks kc rest : List ℕ) → Fits d → d .depthMax ≤ phases → StartInOrder d s j store n → Studied d s marks → length kc ≡ n
       → ((p : ℕ) → p < n → getD kc p 0 ≡ spot (frameOf d (planOf s)) p) → Spotted d s (take n (kc ++ rest))
   spotted n marks kc rest fits deep a w en made = subst (Spotted d s) (sym (take-at kc rest n en)) (made-from n marks kc fits deep a w en made)

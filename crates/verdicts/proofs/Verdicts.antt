@@ -11,10 +11,8 @@ use Rattle.rules.specs.declared.Verdict.the-variants.{Accepted, Refused}
 use Rattle.rules.specs.Plan.{Plan, planOf}
 use Rattle.rules.specs.Roles.{rankedCount}
 use Rattle.rules.specs.Grounds.{_else_, ground?, outside, aroundPlc, pilotClash, grounds1to5, grounds6to15, grounds1to15, answer, verdict}
-use Rattle.rules.specs.Fits.{capacity}
 use Rattle.marks.specs.Marked.{grounds6to8}
-use Rattle.marks.proofs.Marks.{marks-are}
-use Rattle.verdicts.specs.Studied.{Studied, StudiedIf, MarksIf}
+use Rattle.verdicts.specs.Studied.{Studied, StudiedIf}
 use Rattle.ranked.specs.Ground15.{ground15}
 use Rattle.grounds.specs.Order.{grounds13to15, grounds11to15, grounds9to15}
 
@@ -69,8 +67,3 @@ first-ground d s g k e = refused-is (grounds1to15 d s) g k (rankedCount d (planO
 pub studied-if : (r : Verdict) (d : Device) (s m : List ℕ) → Studied d s m → StudiedIf r d s m
 studied-if (Accepted n) d s m w = w
 studied-if (Refused g k) d s m w = tt
-
--- the marks of an accepted plan are the definition's list
-pub marks-if : (r : Verdict) (d : Device) (s m : List ℕ) → d .subcarriers ≡ capacity → StudiedIf r d s m → MarksIf r d s m
-marks-if (Accepted n) d s m e w = marks-are d (planOf s) m e (w .marked)
-marks-if (Refused g k) d s m e w = tt

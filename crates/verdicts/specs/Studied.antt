@@ -7,7 +7,6 @@ use Rattle.rules.specs.declared.Device.{Device}
 use Rattle.rules.specs.declared.Verdict.{Verdict}
 use Rattle.rules.specs.declared.Verdict.the-variants.{Accepted, Refused}
 use Rattle.rules.specs.Plan.{planOf}
-use Rattle.rules.specs.Roles.{marks}
 use Rattle.marks.specs.Marked.{Marked}
 
 -- an accepted plan has a record 0 whose L is in its range, and m holds its marks
@@ -21,8 +20,3 @@ pub record Studied (d : Device) (s : List ℕ) (m : List ℕ) : Type 0 where
 abbrev pub StudiedIf : Verdict → Device → List ℕ → List ℕ → Type 0
 StudiedIf (Accepted n) d s m = Studied d s m
 StudiedIf (Refused g place) d s m = Unit {0}
-
--- where the plan is accepted, the lent array is the list of its marks
-abbrev pub MarksIf : Verdict → Device → List ℕ → List ℕ → Type 0
-MarksIf (Accepted n) d s m = m ≡ marks d (planOf s)
-MarksIf (Refused g place) d s m = Unit {0}

@@ -20,7 +20,7 @@ use Rattle.bytecells.specs.Octets.{cellsOf, bytesOf}
 use Rattle.bytecells.specs.ByteSteps.{sentBytes}
 use Rattle.bytecells.proofs.OctetLaws.{length-cells, whole-length}
 use Rattle.sending.specs.Sent.{givenBy, at, giving, stepBy}
-use Rattle.sendgrounds.specs.Admission.{Admits}
+use Rattle.sendgrounds.specs.Opening.{SendOpens}
 use Rattle.sendgrounds.proofs.Answers.{refused, fit, sent}
 use Rattle.byteemitter.proofs.ByteAnswers.{as-bytes, unchanged}
 use Rattle.byteemitter.proofs.send.Statement.{statement}
@@ -35,7 +35,7 @@ asked g = giving (givenBy (g .args .flushing) (cellsOf (g .args .input .now))) (
 
 -- what `admit` says of the step under a verdict
 Said : tie.After-admit → Verdict → Type 0
-Said c r = let g = c .before .before .before .before .before .before .before .before .before .before .before .before .before in let last = c .admit .last .1 .1 .1 .1 .1 .1 .1 .1 in Admits r (c .before .before .before .before .before .before .before .before .khz50-device .result) (g .args .plan .now) (emitter g) (asked g) (last .0) (last .1 .0) (last .1 .1 .0)
+Said c r = let g = c .before .before .before .before .before .before .before .before .before .before .before .before .before in let last = c .admit .last .1 .1 .1 .1 .1 .1 .1 .1 in SendOpens r (c .before .before .before .before .before .before .before .before .khz50-device .result) (g .args .plan .now) (emitter g) (asked g) (last .0) (last .1 .0) (last .1 .1 .0)
 
 said : (c : tie.After-admit) → Said c (c .admit .result)
 unfolding Said

@@ -18,7 +18,7 @@ use Rattle.bytecells.specs.ByteSteps.{heardBytes}
 use Rattle.bytecells.proofs.OctetLaws.{length-cells}
 use Rattle.receiving.proofs.Answers.{at, arriving}
 use Rattle.receivegrounds.specs.Stages.{admission}
-use Rattle.receivegrounds.specs.Admitted.{Admitted}
+use Rattle.receivegrounds.specs.InOrder.{ReceiveInOrder}
 use Rattle.receivegrounds.proofs.Admissions.{refused, none-refuses, admitted}
 use Rattle.bytereceiver.proofs.Bytes.{as-bytes}
 use Rattle.bytereceiver.proofs.receive_whole.Statement.{statement}
@@ -51,7 +51,7 @@ answer c =
     c .admit .ensures .0 (cellsOf (a .store .now)) (cellsOf (a .symbol .now)) (cellsOf (a .buffer .now)) (length-cells (a .store .now)) (record { number = sym (read .ensures .0); read = λ h. read .ensures .1 (omega (arith, h, read .kept .1 .0)) }) (length-cells (a .buffer .now))
 
 -- what the step relies on
-granted : (c : tie.After-m) → Admitted (frameOf (c .before .before .before .before .before .before .before .before .before .before .before .khz50-device .result) (planOf (c .before .before .before .before .before .before .before .before .before .before .before .before .before .before .before .before .args .plan .now))) (receiver (c .before .before .before .before .before .before .before .before .before .before .before .before .before .before .before .before)) (arrival (c .before .before .before .before .before .before .before .before .before .before .before .before .before .before .before .before)) (c .m .given .0 .0) (c .m .given .0 .1 .0) (c .m .given .0 .1 .1 .0)
+granted : (c : tie.After-m) → ReceiveInOrder (frameOf (c .before .before .before .before .before .before .before .before .before .before .before .khz50-device .result) (planOf (c .before .before .before .before .before .before .before .before .before .before .before .before .before .before .before .before .args .plan .now))) (receiver (c .before .before .before .before .before .before .before .before .before .before .before .before .before .before .before .before)) (arrival (c .before .before .before .before .before .before .before .before .before .before .before .before .before .before .before .before)) (c .m .given .0 .0) (c .m .given .0 .1 .0) (c .m .given .0 .1 .1 .0)
 granted c =
     let g = c .before .before .before .before .before .before .before .before .before .before .before .before .before .before .before .before in
     admitted (c .before .before .before .before .before .before .before .before .before .before .before .khz50-device .result) (g .args .plan .now) (receiver g) (arrival g) _ _ _ (sym (c .m .given .1) ∙ answer (c .before .before .before .before)) (c .before .before .before .before .admit .ensures .1 _ _ _ (c .m .given .1) .shallow)
@@ -109,7 +109,7 @@ hear-requires c κs =
       fits d,
       g .pre .0,
       g .pre .2,
-      subst (λ (y : List ℕ). Admitted (frameOf (d .khz50-device .result) (planOf (g .args .plan .now))) (receiver g) (arriving y (cellsOf (g .args .buffer .now))) (c .before .before .before .before .before .before .m .given .0 .0) (c .before .before .before .before .before .before .m .given .0 .1 .0) (c .before .before .before .before .before .before .m .given .0 .1 .1 .0)) (sym (arrived (c .before .before .before .before .before .before))) (granted (c .before .before .before .before .before .before)),
+      subst (λ (y : List ℕ). ReceiveInOrder (frameOf (d .khz50-device .result) (planOf (g .args .plan .now))) (receiver g) (arriving y (cellsOf (g .args .buffer .now))) (c .before .before .before .before .before .before .m .given .0 .0) (c .before .before .before .before .before .before .m .given .0 .1 .0) (c .before .before .before .before .before .before .m .given .0 .1 .1 .0)) (sym (arrived (c .before .before .before .before .before .before))) (granted (c .before .before .before .before .before .before)),
       c .before .before .before .before .before .before .before .before .before .before .admit .ensures .1 _ _ _ (c .before .before .before .before .before .before .m .given .1),
     )
 

@@ -18,7 +18,7 @@ use Rattle.rules.proofs.Sizes.{khz50-fits}
 use Rattle.steps.proofs.Accepted.{cells-low}
 use Rattle.steps.proofs.Lent.{Lent}
 use Rattle.sending.specs.Sent.{givenBy, at, giving, stepBy}
-use Rattle.sendgrounds.specs.Admission.{Admits}
+use Rattle.sendgrounds.specs.Opening.{SendOpens}
 use Rattle.sendgrounds.proofs.Answers.{refused, fit, sent}
 use Rattle.emitter.proofs.send.Statement.{statement}
 use Rattle.emitter.proofs.send.Tie as tie
@@ -32,7 +32,7 @@ asked g = giving (givenBy (g .args .flushing) (g .args .input .now)) (g .args .s
 
 -- what `admit` says of the step under a verdict
 Said : tie.After-admit → Verdict → Type 0
-Said c r = let g = c .before .before .before .before .before .before .before .before .before in let last = c .admit .last .1 .1 .1 .1 .1 .1 .1 .1 in Admits r (c .before .before .before .before .khz50-device .result) (g .args .plan .now) (emitter g) (asked g) (last .0) (last .1 .0) (last .1 .1 .0)
+Said c r = let g = c .before .before .before .before .before .before .before .before .before in let last = c .admit .last .1 .1 .1 .1 .1 .1 .1 .1 in SendOpens r (c .before .before .before .before .khz50-device .result) (g .args .plan .now) (emitter g) (asked g) (last .0) (last .1 .0) (last .1 .1 .0)
 
 said : (c : tie.After-admit) → Said c (c .admit .result)
 unfolding Said

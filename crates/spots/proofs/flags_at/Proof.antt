@@ -1,13 +1,12 @@
 -- `spots::flags_at` meets its contract. Assumes nothing.
 use borrow.Author.Needs.{needs}
-use Prim.Native.Nat.{ℕ, _+_}
-use mathlib.Core.Path.{ap}
+use Prim.Native.Nat.{ℕ, _+_, _≤_}
+use mathlib.Core.Path.{sym, ap, subst}
 use native.Mathlib.Omega.{arith}
 use lib.ListN.{length}
 use Rattle.counting.proofs.Laws.{count-le}
 use Rattle.rules.specs.Plan.{planOf}
 use Rattle.rules.specs.Frame.{frameOf}
-use Rattle.placeholders.specs.Meets.{meets}
 use Rattle.spots.proofs.Frames.{cells-le, flags-are}
 use Rattle.spots.proofs.Plans.{turning-of}
 use Rattle.spots.proofs.flags_at.Statement.{statement}
@@ -32,8 +31,9 @@ holders-requires c κs =
 
 sub-result : tie.Need-sub-result
 sub-result c =
-    let a = c .before .before .before .before .before .before .before .before .before .args in
-    omega (arith, c .before .before .holders .ensures .1, count-le (meets (c .before .before .before .before .before .number-at .result + a .d .plcWidth + a .j) (a .m) (a .kc .now)) (length (a .kc .now)))
+    let n = length (c .before .before .before .before .before .before .before .before .before .args .kc .now) in
+    let few : c .before .before .holders .result ≤ n = subst (λ (x : ℕ). x ≤ n) (sym (c .before .before .holders .ensures .1)) (count-le _ n) in
+    omega (arith, few)
 
 same-length : tie.Need-same-length
 same-length c = search needs

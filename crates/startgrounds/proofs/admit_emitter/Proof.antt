@@ -10,7 +10,7 @@ use Rattle.rules.specs.declared.Verdict.{Verdict}
 use Rattle.rules.specs.declared.Verdict.the-variants.{Accepted}
 use Rattle.verdicts.specs.Studied.{Studied, StudiedIf}
 use Rattle.startgrounds.specs.Admit.{startVerdict}
-use Rattle.startgrounds.proofs.Starts.{few, Admitted, admitted, spotted}
+use Rattle.startgrounds.proofs.Starts.{few, StartInOrder, admitted, spotted}
 use Rattle.startgrounds.proofs.admit_emitter.Statement.{statement}
 use Rattle.startgrounds.proofs.admit_emitter.Tie as tie
 
@@ -27,7 +27,7 @@ studied c =
     let w = c .before .before .admit in
     subst (λ (v : Verdict). StudiedIf v (a .d) (a .plan .now) (w .last .1 .1 .1 .1 .0)) (c .n .given .1) (w .ensures .1)
 
-known : (c : tie.After-n) → Admitted (start c .args .d) (start c .args .plan .now) (start c .args .phase) (replicate (start c .args .places) 0) (c .n .given .0 .0)
+known : (c : tie.After-n) → StartInOrder (start c .args .d) (start c .args .plan .now) (start c .args .phase) (replicate (start c .args .places) 0) (c .n .given .0 .0)
 known c = let a = start c .args in admitted (a .d) (a .plan .now) (a .phase) (replicate (a .places) 0) _ (accepted c (replicate (a .places) 0) (length-replicate (a .places) 0))
 
 -- the cells fit the lent array

@@ -1,0 +1,4 @@
+pub mod Kept
+pub mod Sends
+pub mod Hears
+pub mod Claims

@@ -1,0 +1,173 @@
+-- An emitter's run over bytes: its accepted steps are, through the cells of the bytes, those of the cell steps that 21 does not refuse. Assumes nothing.
+use Prim.Native.Nat.{ℕ, _%_}
+use mathlib.Core.Path.{_≡_, refl, sym, ap, _∙_, subst}
+use mathlib.Core.Bool.{Bool, true, false, _||_, false≢true}
+use mathlib.Core.List.{List, map}
+use native.Mathlib.Omega.{arith}
+use lib.ListN.{length}
+use borrow.Author.Tests.{ne-eqb}
+use Rattle.counting.proofs.Bools.{by-test}
+use Rattle.rules.specs.declared.Device.{Device}
+use Rattle.rules.specs.declared.StartAnswer.the-variants as a-start
+use Rattle.rules.specs.declared.SendAnswer.the-variants as a-send
+use Rattle.rules.specs.Frame.{Given, flush, symbol}
+use Rattle.rules.specs.Steps.{Emitter, Send, Sending, leaves, Starting, starts, startStep, sendStep, emitStep, flushStep}
+use Rattle.bytecells.specs.Octets.{cellsOf, bytesOf, odd}
+use Rattle.bytecells.specs.ByteSteps.{startedBytes, sentBytes, startBytes, emitBytes, flushBytes}
+use Rattle.bytecells.proofs.OctetLaws.{length-bytes, cells-bytes, octets-whole, even-length}
+use Rattle.runs.specs.Run.{cellEntries, readGiven, isSent, emitterLeft, sendings, input, sent, emitterAfter, isStarted, Fresh}
+use Rattle.byteruns.specs.ByteEntries.{sendGiven, sendBytes, byteEntries, SameBytes}
+use Rattle.byteruns.proofs.Kept.{map-twice, accepted-same, after-keeps, kept, kept-accepted, kept-after}
+
+pub even-bytes : (c : List ℕ) → odd (bytesOf c) ≡ false
+unfolding odd
+even-bytes c = ne-eqb (length (bytesOf c) % 2) 1 (λ e. omega (arith, length-bytes c))
+
+pub same-bytes : SameBytes
+same-bytes b b′ o o′ h h′ e = sym (octets-whole b o (even-length b h)) ∙ ap bytesOf e ∙ octets-whole b′ o′ (even-length b′ h′)
+
+-- what is read of an emitter, of what a step is given, and of what it leaves
+unfoldable pub readEmitter : Emitter → Emitter
+readEmitter e = record { state = e .state; store = cellsOf (e .store) }
+
+readSend : Send → Send
+readSend a = record { given = readGiven cellsOf (a .given); room = cellsOf (a .room) }
+
+readSending : Sending → Sending
+readSending r = leaves (r .answer) (cellsOf (r .store)) (cellsOf (r .symbol))
+
+-- 21
+unfoldable pub oddGiven : Emitter → List ℕ → Given → Bool
+oddGiven e room flush = odd (e .store) || odd room
+oddGiven e room (symbol ds) = odd (e .store) || odd ds || odd room
+
+oddSend : Emitter → Send → Bool
+oddSend e a = oddGiven e (a .room) (a .given)
+
+read-sent : (r : Sending) → readSending (sentBytes r) ≡ r
+unfolding readSending
+read-sent r = λ i. leaves (r .answer) (cells-bytes (r .store) i) (cells-bytes (r .symbol) i)
+
+module _ (d : Device) (s : List ℕ) where
+  send-odd : (e : Emitter) (room : List ℕ) (g : Given) → oddGiven e room g ≡ true → sendGiven d s e room g ≡ leaves (a-send.Refused 21 0 (e .state)) (e .store) room
+  unfolding oddGiven flushBytes emitBytes
+  send-odd e room flush h = rw h refl
+  send-odd e room (symbol ds) h = rw h refl
+
+  send-even : (e : Emitter) (room : List ℕ) (g : Given) → oddGiven e room g ≡ false
+      → sendGiven d s e room g ≡ sentBytes (sendStep d s (readEmitter e) (record { given = readGiven cellsOf g; room = cellsOf room }))
+  unfolding oddGiven flushBytes emitBytes emitStep flushStep readEmitter
+  send-even e room flush h = rw h refl
+  send-even e room (symbol ds) h = rw h refl
+
+  away : (e : Emitter) (a : Send) → oddSend e a ≡ true → (isSent (sendBytes d s e a .answer) ≡ false) × (emitterLeft (sendBytes d s e a) ≡ e)
+  unfolding oddSend
+  away e a h =
+      let q : sendBytes d s e a ≡ leaves (a-send.Refused 21 0 (e .state)) (e .store) (a .room) = send-odd e (a .room) (a .given) h in
+      (ap (λ (r : Sending). isSent (r .answer)) q, ap emitterLeft q)
+
+  same : (e : Emitter) (a : Send) → oddSend e a ≡ false → readSending (sendBytes d s e a) ≡ sendStep d s (readEmitter e) (readSend a)
+  unfolding oddSend readSend
+  same e a h = ap readSending (send-even e (a .room) (a .given) h) ∙ read-sent (sendStep d s (readEmitter e) (readSend a))
+
+  module _ (e : Emitter) (steps : List Send) where
+    -- the cell steps: those that 21 does not refuse
+    pub cellSends : List Send
+    cellSends = kept (sendBytes d s) (λ r. isSent (r .answer)) emitterLeft (sendStep d s) (λ r. isSent (r .answer)) emitterLeft oddSend readEmitter readSend readSending e steps
+
+    sendings-same : map (λ x. (readSend (x .0), readSending (x .1))) (sendings (byteEntries d s) e steps) ≡ sendings (cellEntries d s) (readEmitter e) cellSends
+    unfolding cellSends readSending readEmitter
+    sendings-same =
+        kept-accepted (sendBytes d s) (λ r. isSent (r .answer)) emitterLeft (sendStep d s) (λ r. isSent (r .answer)) emitterLeft oddSend readEmitter readSend readSending
+        (λ r. refl) (λ r. refl) away same e steps
+
+    pub input-same : input (byteEntries d s) e steps ≡ input (cellEntries d s) (readEmitter e) cellSends
+    unfolding input readSend
+    input-same =
+        ap (λ (f : Given → Given). map (λ x. f (x .0 .given)) (sendings (byteEntries d s) e steps)) (λ i g. twice g i)
+        ∙ sym (map-twice (λ x. (readSend (x .0), readSending (x .1))) (λ x. readGiven (λ b. b) (x .0 .given)) (sendings (byteEntries d s) e steps))
+        ∙ ap (map (λ x. readGiven (λ b. b) (x .0 .given))) sendings-same
+      where
+        twice : (g : Given) → readGiven cellsOf g ≡ readGiven (λ b. b) (readGiven cellsOf g)
+        twice flush = refl
+        twice (symbol ds) = refl
+
+    pub sent-same : sent (byteEntries d s) e steps ≡ sent (cellEntries d s) (readEmitter e) cellSends
+    unfolding sent readSending
+    sent-same =
+        sym (map-twice (λ x. (readSend (x .0), readSending (x .1))) (λ x. x .1 .symbol) (sendings (byteEntries d s) e steps))
+        ∙ ap (map (λ x. x .1 .symbol)) sendings-same
+
+    pub after-same : readEmitter (emitterAfter (byteEntries d s) e steps) ≡ emitterAfter (cellEntries d s) (readEmitter e) cellSends
+    unfolding cellSends readSending readEmitter
+    after-same =
+        kept-after (sendBytes d s) (λ r. isSent (r .answer)) emitterLeft (sendStep d s) (λ r. isSent (r .answer)) emitterLeft oddSend readEmitter readSend readSending
+        (λ r. refl) (λ r. refl) away same e steps
+
+  -- the store keeps whole cells
+  keeps-even : (e : Emitter) (a : Send) → odd (e .store) ≡ false → odd (emitterLeft (sendBytes d s e a) .store) ≡ false
+  unfolding oddSend
+  keeps-even e a h =
+      by-test (oddSend e a)
+      (λ q. ap (λ (x : Emitter). odd (x .store)) (away e a q .1) ∙ h)
+      (λ q. ap (λ (r : Sending). odd (r .store)) (send-even e (a .room) (a .given) q) ∙ even-bytes _)
+
+  pub even-after : (e : Emitter) (steps : List Send) → odd (e .store) ≡ false → odd (emitterAfter (byteEntries d s) e steps .store) ≡ false
+  even-after e steps h = after-keeps (sendBytes d s) emitterLeft (λ x. odd (x .store) ≡ false) keeps-even e steps h
+
+  -- one more step of whole cells is accepted if the cell step is
+  pub sends-whole : (e : Emitter) (room : List ℕ) (g : Given) → oddGiven e room g ≡ false
+      → isSent (sendStep d s (readEmitter e) (record { given = readGiven cellsOf g; room = cellsOf room }) .answer) ≡ true → isSent (sendGiven d s e room g .answer) ≡ true
+  sends-whole e room g h t = ap (λ (r : Sending). isSent (r .answer)) (send-even e room g h) ∙ t
+
+  -- ---- the bytes that are left
+
+  sent-bytes : (e : Emitter) (a : Send) → isSent (sendBytes d s e a .answer) ≡ true → bytesOf (cellsOf (sendBytes d s e a .symbol)) ≡ sendBytes d s e a .symbol
+  unfolding oddSend
+  sent-bytes e a t =
+      by-test (oddSend e a)
+      (λ q. absurd (false≢true (sym (away e a q .0) ∙ t)))
+      (λ q.
+      let r : Sending = sendStep d s (readEmitter e) (record { given = readGiven cellsOf (a .given); room = cellsOf (a .room) }) in
+      subst (λ (x : Sending). bytesOf (cellsOf (x .symbol)) ≡ x .symbol) (sym (send-even e (a .room) (a .given) q)) (ap bytesOf (cells-bytes (r .symbol))))
+
+  pub left-bytes : (e : Emitter) (steps : List Send) → map bytesOf (sent (byteEntries d s) e steps) ≡ map (λ x. x .1 .symbol) (sendings (byteEntries d s) e steps)
+  unfolding sent
+  left-bytes e steps =
+      map-twice (λ x. cellsOf (x .1 .symbol)) bytesOf (sendings (byteEntries d s) e steps)
+      ∙ accepted-same (sendBytes d s) (λ r. isSent (r .answer)) emitterLeft (λ r. bytesOf (cellsOf (r .symbol))) (λ r. r .symbol) sent-bytes e steps
+
+  -- ---- a fresh start
+
+  start-even : (j : ℕ) (lent : List ℕ) → odd lent ≡ false → startBytes d s j lent ≡ startedBytes (startStep d s j (cellsOf lent))
+  unfolding startBytes
+  start-even j lent h = rw h refl
+
+  start-odd : (j : ℕ) (lent : List ℕ) → odd lent ≡ true → startBytes d s j lent ≡ starts (a-start.Refused 21 0) lent
+  unfolding startBytes
+  start-odd j lent h = rw h refl
+
+  pub starts-whole : (j : ℕ) (lent : List ℕ) → odd lent ≡ false → isStarted (startStep d s j (cellsOf lent) .answer) ≡ true → isStarted (startBytes d s j lent .answer) ≡ true
+  starts-whole j lent h t = ap (λ (r : Starting). isStarted (r .answer)) (start-even j lent h) ∙ t
+
+  module _ (j : ℕ) (e : Emitter) (f : Fresh (byteEntries d s) j e) where
+    lent-even : odd (f .lent) ≡ false
+    lent-even =
+        by-test (odd (f .lent))
+        (λ q. absurd (false≢true (ap (λ (r : Starting). isStarted (r .answer)) (sym (start-odd j (f .lent) q) ∙ f .start))))
+        (λ q. q)
+
+    started : startedBytes (startStep d s j (cellsOf (f .lent))) ≡ starts (a-start.Started (e .state)) (e .store)
+    started = sym (start-even j (f .lent) lent-even) ∙ f .start
+
+    pub fresh-cells : Fresh (cellEntries d s) j (readEmitter e)
+    unfolding readEmitter
+    fresh-cells = record {
+      lent = cellsOf (f .lent);
+      start =
+          let r : Starting = startStep d s j (cellsOf (f .lent)) in
+          sym (λ i. starts (r .answer) (cells-bytes (r .store) i)) ∙ ap (λ (x : Starting). starts (x .answer) (cellsOf (x .store))) started;
+    }
+
+    pub fresh-even : odd (e .store) ≡ false
+    fresh-even = ap (λ (x : Starting). odd (x .store)) (sym started) ∙ even-bytes _

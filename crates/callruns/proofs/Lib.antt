@@ -1,0 +1,4 @@
+pub mod Numbers
+pub mod Zeros
+pub mod Warming
+pub mod Calls

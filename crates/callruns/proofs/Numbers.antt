@@ -1,0 +1,194 @@
+-- No ground has the number 0, so an answer's number is 0 exactly if no ground refuses. Assumes nothing.
+use Prim.Native.Nat.{ℕ, _+_, _/_}
+use mathlib.Core.Path.{_≡_, refl, sym, ap, _∙_}
+use mathlib.Core.Bool.{Bool, true, false, not, _&&_, _||_}
+use mathlib.Core.Option.{Option, none, some}
+use mathlib.Core.List.{List, [], _∷_}
+use lib.Dec.{leb, ltb, eqb}
+use lib.ListN.{length, getD}
+use borrow.Author.Tests.{not-true}
+use Rattle.counting.specs.Search.{bit, when, lowest}
+use Rattle.counting.proofs.Bools.{by-test}
+use Rattle.rules.specs.declared.Device.{Device}
+use Rattle.rules.specs.declared.Finding.{Finding}
+use Rattle.rules.specs.declared.Finding.the-variants.{Fine, Ground}
+use Rattle.rules.specs.declared.RoleAnswer.{RoleAnswer}
+use Rattle.rules.specs.declared.RoleAnswer.the-variants as a-role
+use Rattle.rules.specs.declared.CountAnswer.{CountAnswer}
+use Rattle.rules.specs.declared.CountAnswer.the-variants as a-count
+use Rattle.rules.specs.declared.StartAnswer.the-variants as a-start
+use Rattle.rules.specs.declared.ListenAnswer.the-variants as a-listen
+use Rattle.rules.specs.Device.{phases}
+use Rattle.rules.specs.Plan.{Entry, Plan, planOf, chain, isPilot}
+use Rattle.rules.specs.Grounds.{_else_, ground?, badLength, badForm, badNext, pilotsMax, badNumbers, outside, aroundPlc, pilotClash, narrowBand, noWideBand, muchExcluded, muchInBand, fullWindow, manyRanked, recordGrounds, chainGrounds, grounds1to5, grounds6to15, grounds1to15, answer, verdict}
+use Rattle.rules.specs.Roles.{rankedCount, role}
+use Rattle.rules.specs.Answers.{roleIn, roleAnswer}
+use Rattle.rules.specs.Frame.{Frame, frameOf, dataCount, Given, flush, symbol, topData}
+use Rattle.rules.specs.Store.{freshStore, fillerStore}
+use Rattle.rules.specs.Steps.{Emitter, Send, Sending, Starting, starts, refused, ground16, shortStore, stateGround16, ground17, givenGrounds, sendGrounds, accepted, frameStep, startGrounds, frameStart, frameCount, sendStep, startStep, dataCountAnswer}
+use Rattle.rules.specs.Receive as receive
+use Rattle.rules.specs.Receive.{Receiver, Arrival, Receiving, Listening, listens, turnedAway, shortBuffer, wrongCell, receiverGround16, receiverGround17, ground20, receiveGrounds, received, frameReceive, frameListen, hearStep, listenStep}
+use Rattle.answers.specs.Answer.{toldVerdict, toldRole, toldCount, toldStart, toldListen, toldSend, toldReceive}
+use Rattle.runs.specs.Run.{isStarted, isListening, isSent, isReceived}
+use Rattle.callruns.specs.Host.{isAccepted, isRole, isCount}
+
+-- ---- the number of a ground
+
+-- a ground that is found has a number other than 0
+numbered : Finding → Bool
+numbered Fine = true
+numbered (Ground n place) = not (eqb n 0)
+
+more : (n : ℕ) (o : Option ℕ) (g : Finding) → not (eqb n 0) ≡ true → numbered g ≡ true → numbered (ground? n o else g) ≡ true
+unfolding numbered
+more n none g h hg = hg
+more n (some place) g h hg = h
+
+last : (n : ℕ) (o : Option ℕ) → not (eqb n 0) ≡ true → numbered (ground? n o) ≡ true
+unfolding numbered
+last n none h = refl
+last n (some place) h = h
+
+both : (f g : Finding) → numbered f ≡ true → numbered g ≡ true → numbered (f else g) ≡ true
+unfolding numbered
+both Fine g hf hg = hg
+both (Ground n place) g hf hg = hf
+
+module _ (d : Device) where
+  record-numbered : (r pilots : ℕ) (e : Entry) → numbered (recordGrounds d r pilots e) ≡ true
+  unfolding recordGrounds
+  record-numbered r pilots e =
+      more 2 (when (badForm e) (e .index)) _ refl
+      (more 3 (when (badNext r e) (e .index)) _ refl
+      (more 4 (when (badNumbers d e) (e .index)) _ refl (last 5 (when (isPilot e && leb pilotsMax pilots) (e .index)) refl)))
+
+  chain-numbered : (r pilots : ℕ) (es : List Entry) → numbered (chainGrounds d r pilots es) ≡ true
+  unfolding chainGrounds
+  chain-numbered r pilots [] = unfold numbered in refl
+  chain-numbered r pilots (e ∷ es) = both (recordGrounds d r pilots e) (chainGrounds d r (pilots + bit (isPilot e)) es) (record-numbered r pilots e) (chain-numbered r (pilots + bit (isPilot e)) es)
+
+  early-numbered : (s : List ℕ) → numbered (grounds1to5 d s) ≡ true
+  unfolding grounds1to5
+  early-numbered s = more 1 (when (badLength s) 0) _ refl (chain-numbered (length s / 8) 0 (chain s))
+
+  later-numbered : (p : Plan) → numbered (grounds6to15 d p) ≡ true
+  unfolding grounds6to15
+  later-numbered p =
+      more 6 (outside d p) _ refl
+      (more 7 (aroundPlc d p) _ refl
+      (more 8 (pilotClash d p [] (p .pilots)) _ refl
+      (more 9 (narrowBand d p) _ refl
+      (more 10 (when (noWideBand d p) 0) _ refl
+      (more 11 (when (muchExcluded d p) 0) _ refl
+      (more 12 (muchInBand d p) _ refl
+      (more 13 (fullWindow d p (d .longWindow) (d .longMax)) _ refl
+      (more 14 (fullWindow d p (d .shortWindow) (d .shortMax)) _ refl (last 15 (when (manyRanked d p) 0) refl)))))))))
+
+  plan-numbered : (s : List ℕ) → numbered (grounds1to15 d s) ≡ true
+  unfolding grounds1to15
+  plan-numbered s = both (grounds1to5 d s) (grounds6to15 d (planOf s)) (early-numbered s) (later-numbered (planOf s))
+
+module _ (F : Frame) where
+  phase-numbered : (j : ℕ) → numbered (ground16 F j) ≡ true
+  unfolding ground16
+  phase-numbered j = last 16 (when (leb (F .phases) j) 0) refl
+
+  start-numbered : (j : ℕ) (st : List ℕ) → numbered (startGrounds F j st) ≡ true
+  unfolding startGrounds
+  start-numbered j st = both (ground16 F j) (ground? 17 (when (shortStore F st) 0)) (phase-numbered j) (last 17 (when (shortStore F st) 0) refl)
+
+  given-numbered : (j : ℕ) (g : Given) → numbered (givenGrounds F j g) ≡ true
+  unfolding givenGrounds
+  given-numbered j flush = unfold numbered in refl
+  given-numbered j (symbol ds) = more 18 (when (not (eqb (length ds) (dataCount F j))) 0) _ refl (last 19 (lowest (λ i. ltb topData (getD ds i 0)) (length ds)) refl)
+
+  send-numbered : (e : Emitter) (a : Send) → numbered (sendGrounds F e a) ≡ true
+  unfolding sendGrounds stateGround16 ground17
+  send-numbered e a =
+      more 16 (when (leb (F .phases) (e .state .phase) || leb (F .depth) (e .state .row)) 0) _ refl
+      (more 17 (when (shortStore F (e .store) || not (eqb (length (a .room)) (F .width))) 0) _ refl (given-numbered (e .state .phase) (a .given)))
+
+  receive-numbered : (v : Receiver) (a : Arrival) → numbered (receiveGrounds F v a) ≡ true
+  unfolding receiveGrounds receiverGround16 receiverGround17 ground20
+  receive-numbered v a =
+      more 16 (when (leb (F .phases) (v .state .phase) || leb (F .depth) (v .state .row) || leb (F .depth) (v .state .heard)) 0) _ refl
+      (more 17 (when (shortStore F (v .store) || not (eqb (length (a .symbol)) (F .width)) || shortBuffer F (v .state) (a .buffer)) 0) _ refl
+      (last 20 (lowest (wrongCell F (v .state .phase) (a .symbol)) (F .width)) refl))
+
+-- ---- the number of an answer
+
+-- what is made where nothing is found, and what else
+by-ground : {T : Type 0} (number : T → ℕ) (ok : T → Bool) (f : Finding) (made : T) (away : ℕ → ℕ → T) → numbered f ≡ true → eqb (number made) 0 ≡ ok made
+    → ((n place : ℕ) → (number (away n place) ≡ n) × (ok (away n place) ≡ false))
+    → eqb (number (elim f [ Fine ↦ made | Ground n place ↦ away n place ])) 0 ≡ ok (elim f [ Fine ↦ made | Ground n place ↦ away n place ])
+unfolding numbered
+by-ground number ok Fine made away h hm ha = hm
+by-ground number ok (Ground n place) made away h hm ha = ap (λ (x : ℕ). eqb x 0) (ha n place .0) ∙ not-true (eqb n 0) h ∙ sym (ha n place .1)
+
+module _ (d : Device) (s : List ℕ) where
+  pub verdict-zero : eqb (toldVerdict (verdict d s) .number) 0 ≡ isAccepted (verdict d s)
+  unfolding verdict
+  verdict-zero = go (grounds1to15 d s) (plan-numbered d s)
+    where
+      go : (f : Finding) → numbered f ≡ true → eqb (toldVerdict (answer f (rankedCount d (planOf s))) .number) 0 ≡ isAccepted (answer f (rankedCount d (planOf s)))
+      go Fine h = refl
+      go (Ground n place) h = not-true (eqb n 0) (unfold numbered in h)
+
+  pub role-zero : (k j : ℕ) → eqb (toldRole (roleAnswer d s k j) .number) 0 ≡ isRole (roleAnswer d s k j)
+  unfolding roleAnswer roleIn
+  role-zero k j =
+      by-ground (λ (r : RoleAnswer). toldRole r .number) isRole (grounds1to15 d s) (roleIn d s k j) (λ n place. a-role.Refused n place) (plan-numbered d s)
+      (go (leb (d .subcarriers) k || leb phases j))
+      (λ n place. (refl, refl))
+    where
+      made : Bool → RoleAnswer
+      made b = elim b [ true ↦ a-role.Refused 16 0 | false ↦ a-role.Is (role d (planOf s) j k) ]
+
+      go : (b : Bool) → eqb (toldRole (made b) .number) 0 ≡ isRole (made b)
+      go true = refl
+      go false = refl
+
+  pub count-zero : (j : ℕ) → eqb (toldCount (dataCountAnswer d s j) .number) 0 ≡ isCount (dataCountAnswer d s j)
+  unfolding dataCountAnswer frameCount
+  count-zero j =
+      let F : Frame = frameOf d (planOf s) in
+      by-ground (λ (r : CountAnswer). toldCount r .number) isCount (grounds1to15 d s) (frameCount F j) (λ n place. a-count.Refused n place) (plan-numbered d s)
+      (by-ground (λ (r : CountAnswer). toldCount r .number) isCount (ground16 F j) (a-count.Count (dataCount F j)) (λ n place. a-count.Refused n place) (phase-numbered F j) refl (λ n place. (refl, refl)))
+      (λ n place. (refl, refl))
+
+  pub start-zero : (j : ℕ) (st : List ℕ) → eqb (toldStart (startStep d s j st .answer) .number) 0 ≡ isStarted (startStep d s j st .answer)
+  unfolding startStep frameStart
+  start-zero j st =
+      let F : Frame = frameOf d (planOf s) in
+      let away : ℕ → ℕ → Starting = λ n place. starts (a-start.Refused n place) st in
+      by-ground (λ (r : Starting). toldStart (r .answer) .number) (λ r. isStarted (r .answer)) (grounds1to15 d s) (frameStart F j st) away (plan-numbered d s)
+      (by-ground (λ (r : Starting). toldStart (r .answer) .number) (λ r. isStarted (r .answer)) (startGrounds F j st)
+      (starts (a-start.Started (record { phase = j; row = 0 })) (freshStore F j st)) away (start-numbered F j st) refl (λ n place. (refl, refl)))
+      (λ n place. (refl, refl))
+
+  pub listen-zero : (j : ℕ) (st : List ℕ) → eqb (toldListen (listenStep d s j st .answer) .number) 0 ≡ isListening (listenStep d s j st .answer)
+  unfolding listenStep frameListen
+  listen-zero j st =
+      let F : Frame = frameOf d (planOf s) in
+      let away : ℕ → ℕ → Listening = λ n place. listens (a-listen.Refused n place) st in
+      by-ground (λ (r : Listening). toldListen (r .answer) .number) (λ r. isListening (r .answer)) (grounds1to15 d s) (frameListen F j st) away (plan-numbered d s)
+      (by-ground (λ (r : Listening). toldListen (r .answer) .number) (λ r. isListening (r .answer)) (startGrounds F j st)
+      (listens (a-listen.Started (record { phase = j; row = 0; heard = 0 })) (fillerStore F st)) away (start-numbered F j st) refl (λ n place. (refl, refl)))
+      (λ n place. (refl, refl))
+
+  pub send-zero : (e : Emitter) (a : Send) → eqb (toldSend (sendStep d s e a .answer) .number) 0 ≡ isSent (sendStep d s e a .answer)
+  unfolding sendStep frameStep accepted
+  send-zero e a =
+      let F : Frame = frameOf d (planOf s) in
+      by-ground (λ (r : Sending). toldSend (r .answer) .number) (λ r. isSent (r .answer)) (grounds1to15 d s) (frameStep F e a) (refused e a) (plan-numbered d s)
+      (by-ground (λ (r : Sending). toldSend (r .answer) .number) (λ r. isSent (r .answer)) (sendGrounds F e a) (accepted F e (a .given)) (refused e a) (send-numbered F e a) refl (λ n place. (refl, refl)))
+      (λ n place. (refl, refl))
+
+  pub hear-zero : (v : Receiver) (a : Arrival) → eqb (toldReceive (hearStep d s v a .answer) .number) 0 ≡ isReceived (hearStep d s v a .answer)
+  unfolding hearStep frameReceive received
+  hear-zero v a =
+      let F : Frame = frameOf d (planOf s) in
+      by-ground (λ (r : Receiving). toldReceive (r .answer) .number) (λ r. isReceived (r .answer)) (grounds1to15 d s) (frameReceive F v a) (turnedAway v a) (plan-numbered d s)
+      (by-ground (λ (r : Receiving). toldReceive (r .answer) .number) (λ r. isReceived (r .answer)) (receiveGrounds F v a) (received F v a) (turnedAway v a) (receive-numbered F v a)
+      (by-test (receive.warming F (v .state)) (λ q. rw q refl) (λ q. rw q refl)) (λ n place. (refl, refl)))
+      (λ n place. (refl, refl))

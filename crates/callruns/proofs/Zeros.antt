@@ -1,0 +1,84 @@
+-- A call returns 0 exactly if nothing refuses. Assumes nothing.
+use Prim.Native.Nat.{ℕ}
+use mathlib.Core.Path.{_≡_, refl, sym, _∙_}
+use mathlib.Core.Logic.{_↔_}
+use mathlib.Core.Bool.{Bool, true, false, _||_, true≢false}
+use mathlib.Core.List.{List}
+use native.Mathlib.Omega.{arith}
+use lib.Dec.{eqb}
+use borrow.Author.Tests.{eqb-true, eq-eqb}
+use Rattle.counting.specs.Search.{pick}
+use Rattle.counting.proofs.Bools.{by-test}
+use Rattle.rules.specs.declared.Device.{Device}
+use Rattle.rules.specs.declared.EmitterState.{EmitterState}
+use Rattle.rules.specs.declared.ReceiverState.{ReceiverState}
+use Rattle.rules.specs.Grounds.{verdict}
+use Rattle.rules.specs.Answers.{roleAnswer}
+use Rattle.rules.specs.Frame.{flush, symbol}
+use Rattle.rules.specs.Steps.{emitStep, flushStep, dataCountAnswer}
+use Rattle.rules.specs.Receive.{receiveStep}
+use Rattle.bytecells.specs.Octets.{cellsOf, odd}
+use Rattle.bytecells.specs.ByteSteps.{startBytes, listenBytes, emitBytes, flushBytes, receiveBytes}
+use Rattle.answers.specs.declared.Told.{Told}
+use Rattle.answers.specs.Answer.{short, written, toldVerdict, toldRole, toldCount, toldStart, toldListen, toldSend, toldReceive}
+use Rattle.runs.specs.Run.{isStarted, isListening, isSent, isReceived}
+use Rattle.headend.specs.Calls.{Said, says, StoreSaid, saysStore, StepSaid, saysStep, startTold, listenTold, sendTold, receiveTold, judgeCall, roleCall, countCall, startCall, listenCall, emitCall, flushCall, receiveCall}
+use Rattle.callruns.specs.Host.{isAccepted, isRole, isCount, ZeroIsAccepted}
+use Rattle.callruns.proofs.Numbers.{verdict-zero, role-zero, count-zero, start-zero, listen-zero, send-zero, hear-zero}
+
+-- the number of x where b holds, 21, and else of y
+zero : {T : Type 0} (number : T → ℕ) (b : Bool) (x y : T) (ok : Bool) → number x ≡ 21 → eqb (number y) 0 ≡ ok → (number (pick b x y) ≡ 0) ↔ ((b ≡ false) × (ok ≡ true))
+zero number true x y ok hx hy = (λ e. absurd (omega (arith, hx, e)), λ p. absurd (true≢false (p .0)))
+zero number false x y ok hx hy = (λ e. (refl, sym hy ∙ eq-eqb (number y) 0 e), λ p. eqb-true (number y) 0 (hy ∙ p .1))
+
+module _ (d : Device) (s : List ℕ) where
+  -- ---- the entries over bytes
+
+  pub start-bytes : (j : ℕ) (store : List ℕ) → eqb (toldStart (startBytes d s j store .answer) .number) 0 ≡ isStarted (startBytes d s j store .answer)
+  unfolding startBytes
+  start-bytes j store = by-test (odd store) (λ q. rw q refl) (λ q. rw q (start-zero d s j (cellsOf store)))
+
+  pub listen-bytes : (j : ℕ) (store : List ℕ) → eqb (toldListen (listenBytes d s j store .answer) .number) 0 ≡ isListening (listenBytes d s j store .answer)
+  unfolding listenBytes
+  listen-bytes j store = by-test (odd store) (λ q. rw q refl) (λ q. rw q (listen-zero d s j (cellsOf store)))
+
+  pub emit-bytes : (e : EmitterState) (store ds room : List ℕ) → eqb (toldSend (emitBytes d s e store ds room .answer) .number) 0 ≡ isSent (emitBytes d s e store ds room .answer)
+  unfolding emitBytes emitStep
+  emit-bytes e store ds room =
+      by-test (odd store || odd ds || odd room) (λ q. rw q refl)
+      (λ q. rw q (send-zero d s (record { state = e; store = cellsOf store }) (record { given = symbol (cellsOf ds); room = cellsOf room })))
+
+  pub flush-bytes : (e : EmitterState) (store room : List ℕ) → eqb (toldSend (flushBytes d s e store room .answer) .number) 0 ≡ isSent (flushBytes d s e store room .answer)
+  unfolding flushBytes flushStep
+  flush-bytes e store room =
+      by-test (odd store || odd room) (λ q. rw q refl)
+      (λ q. rw q (send-zero d s (record { state = e; store = cellsOf store }) (record { given = flush; room = cellsOf room })))
+
+  pub receive-bytes : (v : ReceiverState) (store y b : List ℕ) → eqb (toldReceive (receiveBytes d s v store y b .answer) .number) 0 ≡ isReceived (receiveBytes d s v store y b .answer)
+  unfolding receiveBytes receiveStep
+  receive-bytes v store y b =
+      by-test (odd store || odd y || odd b) (λ q. rw q refl)
+      (λ q. rw q (hear-zero d s (record { state = v; store = cellsOf store }) (record { symbol = cellsOf y; buffer = cellsOf b })))
+
+  -- ---- the calls
+
+  told-zero : (a : List ℕ) (t : Told) (ok : Bool) → eqb (t .number) 0 ≡ ok → (pick (short a) (says 21 a) (says (t .number) (written a t)) .number ≡ 0) ↔ ((short a ≡ false) × (ok ≡ true))
+  told-zero a t ok h = zero (λ (x : Said). x .number) (short a) (says 21 a) (says (t .number) (written a t)) ok refl h
+
+  pub zero-is-accepted : ZeroIsAccepted d s
+  unfolding judgeCall roleCall countCall startCall listenCall emitCall flushCall receiveCall
+  zero-is-accepted = record {
+    judged = λ a. told-zero a (toldVerdict (verdict d s)) (isAccepted (verdict d s)) (verdict-zero d s);
+    role = λ k j a. told-zero a (toldRole (roleAnswer d s k j)) (isRole (roleAnswer d s k j)) (role-zero d s k j);
+    counted = λ j a. told-zero a (toldCount (dataCountAnswer d s j)) (isCount (dataCountAnswer d s j)) (count-zero d s j);
+    started = λ j store a.
+        zero (λ (x : StoreSaid). x .said .number) (short a) (saysStore 21 store a) (startTold (startBytes d s j store) a) (isStarted (startBytes d s j store .answer)) refl (start-bytes j store);
+    listens = λ j store a.
+        zero (λ (x : StoreSaid). x .said .number) (short a) (saysStore 21 store a) (listenTold (listenBytes d s j store) a) (isListening (listenBytes d s j store .answer)) refl (listen-bytes j store);
+    emitted = λ e store ds room a.
+        zero (λ (x : StepSaid). x .said .number) (short a) (saysStep 21 store room a) (sendTold (emitBytes d s e store ds room) a) (isSent (emitBytes d s e store ds room .answer)) refl (emit-bytes e store ds room);
+    flushed = λ e store room a.
+        zero (λ (x : StepSaid). x .said .number) (short a) (saysStep 21 store room a) (sendTold (flushBytes d s e store room) a) (isSent (flushBytes d s e store room .answer)) refl (flush-bytes e store room);
+    received = λ v store y b a.
+        zero (λ (x : StepSaid). x .said .number) (short a) (saysStep 21 store b a) (receiveTold (receiveBytes d s v store y b) a) (isReceived (receiveBytes d s v store y b .answer)) refl (receive-bytes v store y b);
+  }

@@ -1,0 +1,92 @@
+-- The calls, as a C host steps through them (request 01): it lends an answer buffer, and takes the number that a call returns and the five numbers that the
+-- call left in the buffer. Assumes nothing.
+use Prim.Native.Nat.{ℕ}
+use mathlib.Core.Path.{_≡_}
+use mathlib.Core.Bool.{false, not}
+use mathlib.Core.List.{List}
+use lib.Dec.{eqb}
+use Rattle.counting.specs.Search.{pick}
+use Rattle.rules.specs.declared.Device.{Device}
+use Rattle.rules.specs.declared.StartAnswer.{StartAnswer}
+use Rattle.rules.specs.declared.StartAnswer.the-variants as a-start
+use Rattle.rules.specs.declared.ListenAnswer.{ListenAnswer}
+use Rattle.rules.specs.declared.ListenAnswer.the-variants as a-listen
+use Rattle.rules.specs.declared.SendAnswer.{SendAnswer}
+use Rattle.rules.specs.declared.SendAnswer.the-variants as a-send
+use Rattle.rules.specs.declared.ReceiveAnswer.{ReceiveAnswer}
+use Rattle.rules.specs.declared.ReceiveAnswer.the-variants as a-receive
+use Rattle.rules.specs.Frame.{Given, flush, symbol}
+use Rattle.rules.specs.Steps.{Emitter, Sending, leaves, Starting, starts}
+use Rattle.rules.specs.Receive.{Receiver, Arrival, Receiving, hears, Listening, listens}
+use Rattle.bytecells.specs.Octets.{cellsOf, odd}
+use Rattle.answers.specs.declared.Told.{Told}
+use Rattle.answers.specs.Answer.{short}
+use Rattle.headend.specs.Calls.{Said, StoreSaid, StepSaid, startCall, listenCall, emitCall, flushCall, receiveCall}
+use Rattle.runs.specs.Run.{Entries}
+use Rattle.callruns.specs.Host.{numberIn}
+
+-- what a call said: the number, and place, phase, row, heard and value from the buffer
+abbrev pub toldIn : Said → Told
+toldIn c = record {
+  number = c .number;
+  place = numberIn (c .answer) 0;
+  phase = numberIn (c .answer) 4;
+  row = numberIn (c .answer) 8;
+  heard = numberIn (c .answer) 12;
+  value = numberIn (c .answer) 16;
+}
+
+-- how a host takes it: the number 0 is not refused, and of a receive call the value 0 is warming
+abbrev pub startOf : Told → StartAnswer
+startOf t = pick (eqb (t .number) 0) (a-start.Started (record { phase = t .phase; row = t .row })) (a-start.Refused (t .number) (t .place))
+
+abbrev pub listenOf : Told → ListenAnswer
+listenOf t = pick (eqb (t .number) 0) (a-listen.Started (record { phase = t .phase; row = t .row; heard = t .heard })) (a-listen.Refused (t .number) (t .place))
+
+abbrev pub sendOf : Told → SendAnswer
+sendOf t =
+    pick (eqb (t .number) 0) (a-send.Sent (record { phase = t .phase; row = t .row }))
+    (a-send.Refused (t .number) (t .place) (record { phase = t .phase; row = t .row }))
+
+abbrev pub receiveOf : Told → ReceiveAnswer
+receiveOf t =
+    pick (eqb (t .number) 0)
+    (pick (eqb (t .value) 0) (a-receive.Warming (record { phase = t .phase; row = t .row; heard = t .heard }))
+    (a-receive.Data (record { phase = t .phase; row = t .row; heard = t .heard }) (t .value)))
+    (a-receive.Refused (t .number) (t .place) (record { phase = t .phase; row = t .row; heard = t .heard }))
+
+-- with what the call left
+abbrev pub startSaid : StoreSaid → Starting
+startSaid c = starts (startOf (toldIn (c .said))) (c .store)
+
+abbrev pub listenSaid : StoreSaid → Listening
+listenSaid c = listens (listenOf (toldIn (c .said))) (c .store)
+
+abbrev pub sendSaid : StepSaid → Sending
+sendSaid c = leaves (sendOf (toldIn (c .said))) (c .store) (c .cells)
+
+abbrev pub receiveSaid : StepSaid → Receiving
+receiveSaid c = hears (receiveOf (toldIn (c .said))) (c .store) (c .cells)
+
+-- the device, a plan's bytes and the answer buffer
+module _ (d : Device) (s : List ℕ) (a : List ℕ) where
+  abbrev pub giveCall : Emitter → List ℕ → Given → StepSaid
+  giveCall e room flush = flushCall d s (e .state .phase) (e .state .row) (e .store) room a
+  giveCall e room (symbol ds) = emitCall d s (e .state .phase) (e .state .row) (e .store) ds room a
+
+  abbrev pub hearCall : Receiver → Arrival → StepSaid
+  hearCall v x = receiveCall d s (v .state .phase) (v .state .row) (v .state .heard) (v .store) (x .symbol) (x .buffer) a
+
+  abbrev pub callEntries : Entries
+  callEntries = record {
+    start = λ j store. startSaid (startCall d s j store a);
+    send = λ e x. sendSaid (giveCall e (x .room) (x .given));
+    listen = λ j store. listenSaid (listenCall d s j store a);
+    hear = λ v x. receiveSaid (hearCall v x);
+    whole = λ b. not (odd b);
+    read = cellsOf;
+  }
+
+-- what a host reads does not hang on what its answer buffer held: one buffer may serve all calls of a run, or a new one each
+abbrev pub AnyBuffer : Device → List ℕ → Type 0
+AnyBuffer d s = (a a′ : List ℕ) → short a ≡ false → short a′ ≡ false → callEntries d s a ≡ callEntries d s a′

@@ -1,0 +1,71 @@
+-- What a C host reads from a call's number and from the value in its answer buffer (request 01). Statements only. Assumes nothing.
+use Prim.Native.Nat.{ℕ, _+_, _*_}
+use mathlib.Core.Path.{_≡_}
+use mathlib.Core.Logic.{_↔_}
+use mathlib.Core.Bool.{Bool, true, false}
+use mathlib.Core.List.{List}
+use lib.ListN.{getD}
+use Rattle.rules.specs.declared.Device.{Device}
+use Rattle.rules.specs.declared.EmitterState.{EmitterState}
+use Rattle.rules.specs.declared.ReceiverState.{ReceiverState}
+use Rattle.rules.specs.declared.Verdict.{Verdict}
+use Rattle.rules.specs.declared.Verdict.the-variants as a-verdict
+use Rattle.rules.specs.declared.RoleAnswer.{RoleAnswer}
+use Rattle.rules.specs.declared.RoleAnswer.the-variants as a-role
+use Rattle.rules.specs.declared.CountAnswer.{CountAnswer}
+use Rattle.rules.specs.declared.CountAnswer.the-variants as a-count
+use Rattle.rules.specs.declared.ReceiveAnswer.{ReceiveAnswer}
+use Rattle.rules.specs.declared.ReceiveAnswer.the-variants as a-receive
+use Rattle.rules.specs.Grounds.{verdict}
+use Rattle.rules.specs.Answers.{roleAnswer}
+use Rattle.rules.specs.Steps.{dataCountAnswer}
+use Rattle.bytecells.specs.ByteSteps.{startBytes, listenBytes, emitBytes, flushBytes, receiveBytes}
+use Rattle.answers.specs.Answer.{short}
+use Rattle.runs.specs.Run.{isStarted, isListening, isSent, isReceived}
+use Rattle.headend.specs.Calls.{judgeCall, roleCall, countCall, startCall, listenCall, emitCall, flushCall, receiveCall}
+
+-- no ground refuses
+abbrev pub isAccepted : Verdict → Bool
+isAccepted (a-verdict.Accepted n) = true
+isAccepted (a-verdict.Refused n place) = false
+
+abbrev pub isRole : RoleAnswer → Bool
+isRole (a-role.Is r) = true
+isRole (a-role.Refused n place) = false
+
+abbrev pub isCount : CountAnswer → Bool
+isCount (a-count.Count n) = true
+isCount (a-count.Refused n place) = false
+
+abbrev pub isWarming : ReceiveAnswer → Bool
+isWarming (a-receive.Warming v) = true
+isWarming (a-receive.Data v n) = false
+isWarming (a-receive.Refused n place v) = false
+
+-- a number in an answer buffer: four bytes from byte i on, high byte first
+unfoldable pub numberIn : List ℕ → ℕ → ℕ
+numberIn a i = getD a i 0 * 16777216 + getD a (i + 1) 0 * 65536 + getD a (i + 2) 0 * 256 + getD a (i + 3) 0
+
+-- the value: the last of five such numbers
+abbrev pub valueIn : List ℕ → ℕ
+valueIn a = numberIn a 16
+
+-- A call returns 0 exactly if nothing refuses: the answer buffer a is long enough, and the entry beneath the call does not refuse.
+pub record ZeroIsAccepted (d : Device) (s : List ℕ) : Type 0 where
+  pub judged : (a : List ℕ) → (judgeCall d s a .number ≡ 0) ↔ ((short a ≡ false) × (isAccepted (verdict d s) ≡ true))
+  pub role : (k j : ℕ) (a : List ℕ) → (roleCall d s k j a .number ≡ 0) ↔ ((short a ≡ false) × (isRole (roleAnswer d s k j) ≡ true))
+  pub counted : (j : ℕ) (a : List ℕ) → (countCall d s j a .number ≡ 0) ↔ ((short a ≡ false) × (isCount (dataCountAnswer d s j) ≡ true))
+  pub started : (j : ℕ) (store a : List ℕ) → (startCall d s j store a .said .number ≡ 0) ↔ ((short a ≡ false) × (isStarted (startBytes d s j store .answer) ≡ true))
+  pub listens : (j : ℕ) (store a : List ℕ) → (listenCall d s j store a .said .number ≡ 0) ↔ ((short a ≡ false) × (isListening (listenBytes d s j store .answer) ≡ true))
+  pub emitted : (e : EmitterState) (store ds room a : List ℕ)
+      → (emitCall d s (e .phase) (e .row) store ds room a .said .number ≡ 0) ↔ ((short a ≡ false) × (isSent (emitBytes d s e store ds room .answer) ≡ true))
+  pub flushed : (e : EmitterState) (store room a : List ℕ)
+      → (flushCall d s (e .phase) (e .row) store room a .said .number ≡ 0) ↔ ((short a ≡ false) × (isSent (flushBytes d s e store room .answer) ≡ true))
+  pub received : (v : ReceiverState) (store y b a : List ℕ)
+      → (receiveCall d s (v .phase) (v .row) (v .heard) store y b a .said .number ≡ 0) ↔ ((short a ≡ false) × (isReceived (receiveBytes d s v store y b .answer) ≡ true))
+
+-- A receive call that returns 0 leaves the value 0 exactly if it answers warming.
+abbrev pub ZeroIsWarming : Device → List ℕ → Type 0
+ZeroIsWarming d s =
+    (v : ReceiverState) (store y b a : List ℕ) → receiveCall d s (v .phase) (v .row) (v .heard) store y b a .said .number ≡ 0
+    → (valueIn (receiveCall d s (v .phase) (v .row) (v .heard) store y b a .said .answer) ≡ 0) ↔ (isWarming (receiveBytes d s v store y b .answer) ≡ true)

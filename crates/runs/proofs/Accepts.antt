@@ -1,0 +1,127 @@
+-- No fresh start and no step that is given what it asks for is refused. Assumes nothing.
+use Prim.Native.Nat.{ℕ, suc, _+_, _*_, _%_, _≤_, _<_}
+use mathlib.Core.Path.{_≡_, refl, sym, ap, _∙_}
+use mathlib.Core.Bool.{true, not, _||_}
+use mathlib.Core.List.{List, [], _∷_}
+use native.Mathlib.Nat.{mod-lt, mod-eq-of-lt, mod-add-mod, add-zero, zero-add, zero-mod}
+use native.Mathlib.Omega.{arith}
+use lib.Dec.{ltb}
+use lib.ListN.{length, getD}
+use lib.Seq.{length-sets}
+use borrow.Author.Tests.{le-ltb, lt-leb, eq-eqb}
+use Rattle.counting.specs.Search.{when}
+use Rattle.counting.proofs.Laws.{none-lowest}
+use Rattle.rules.specs.declared.Finding.{Finding}
+use Rattle.rules.specs.declared.Finding.the-variants.{Fine, Ground}
+use Rattle.rules.specs.declared.StartAnswer.the-variants as a-start
+use Rattle.rules.specs.declared.ListenAnswer.the-variants as a-listen
+use Rattle.rules.specs.Grounds.{_else_, ground?}
+use Rattle.rules.specs.Frame.{Frame, cells, dataCount, Given, flush, symbol, topData}
+use Rattle.rules.specs.Store.{freshStore, fillerStore}
+use Rattle.rules.specs.Steps.{Emitter, Send, Starting, starts, ground16, shortStore, stateGround16, ground17, givenGrounds, sendGrounds, nextState, sentStore, startGrounds, frameStart, frameStep}
+use Rattle.rules.specs.Receive.{Listening, listens, frameListen}
+use Rattle.delay.proofs.Ring.{length-put, row-next}
+use Rattle.frame.specs.Counted.{phaseOf}
+use Rattle.frame.proofs.Cells.{Sound}
+use Rattle.runs.specs.Run.{acceptedSteps, afterSteps, isSent, sent, emitterAfter, isStarted, isListening}
+use Rattle.runs.specs.Claims.{InputAt}
+use Rattle.runs.proofs.Steps.{frameEntries, by-finding, next, sent-fine, sent-symbol, sent-ground, after-sent, after-ground, freshEmitter, FreshIn}
+
+-- ---- fresh starts
+
+module _ (F : Frame) (j : ℕ) (lent : List ℕ) (hj : j < F .phases) (fits : F .depth * cells F ≤ length lent) where
+  start-fine : startGrounds F j lent ≡ Fine
+  unfolding startGrounds ground16 shortStore
+  start-fine = λ i. ground? 16 (when (lt-leb (F .phases) j hj i) 0) else ground? 17 (when (le-ltb (length lent) (F .depth * cells F) fits i) 0)
+
+  pub starts-fine : isStarted (frameStart F j lent .answer) ≡ true
+  unfolding frameStart
+  starts-fine =
+      let left : Finding → Starting = λ f. elim f [ Fine ↦ starts (a-start.Started (record { phase = j; row = 0 })) (freshStore F j lent) | Ground n place ↦ starts (a-start.Refused n place) lent ] in
+      ap (λ (f : Finding). isStarted (left f .answer)) start-fine
+
+  pub listens-fine : isListening (frameListen F j lent .answer) ≡ true
+  unfolding frameListen
+  listens-fine =
+      let left : Finding → Listening = λ f. elim f [ Fine ↦ listens (a-listen.Started (record { phase = j; row = 0; heard = 0 })) (fillerStore F lent) | Ground n place ↦ listens (a-listen.Refused n place) lent ] in
+      ap (λ (f : Finding). isListening (left f .answer)) start-fine
+
+-- ---- the state of a run
+
+-- how an emitter goes with the number n of symbols sent since the starting phase j
+record Carries (F : Frame) (j n : ℕ) (e : Emitter) : Type 0 where
+  phase : e .state .phase ≡ phaseOf F j n
+  row : e .state .row ≡ n % F .depth
+  fits : F .depth * cells F ≤ length (e .store)
+
+carries-next : (F : Frame) (j n : ℕ) (e : Emitter) (g : Given) → 0 < F .depth → Carries F j n e → Carries F j (suc n) (next F e g)
+unfolding next nextState sentStore
+carries-next F j n e g pos t = record {
+  phase = rw (t .phase) (mod-add-mod (j + n) (F .phases) 1 ∙ ap (λ (x : ℕ). x % F .phases) (let e : j + n + 1 ≡ j + suc n = omega arith in e));
+  row = rw (t .row) (row-next (F .depth) n);
+  fits = rw (length-put (F .depth) (cells F) pos) (t .fits);
+}
+
+carries-after : (F : Frame) (j n : ℕ) (e : Emitter) (steps : List Send) → 0 < F .depth → Carries F j n e
+    → Carries F j (n + length (sent (frameEntries F) e steps)) (emitterAfter (frameEntries F) e steps)
+carries-after F j n e [] pos t = unfold sent acceptedSteps afterSteps in (rw (add-zero n) t)
+carries-after F j n e (a ∷ rest) pos t =
+    by-finding (sendGrounds F e a)
+    (λ h.
+    let w : Emitter = next F e (a .given) in
+    let q : n + suc (length (sent (frameEntries F) w rest)) ≡ suc n + length (sent (frameEntries F) w rest) = omega arith in
+    rw (sent-symbol F e a rest h, after-sent F e a rest h, q) (carries-after F j (suc n) w rest pos (carries-next F j n e (a .given) pos t)))
+    (λ m place h. rw (sent-ground F e a rest m place h, after-ground F e a rest m place h) (carries-after F j n e rest pos t))
+
+carries-fresh : (F : Frame) (j : ℕ) (lent : List ℕ) → j < F .phases → F .depth * cells F ≤ length lent → Carries F j 0 (freshEmitter F j lent)
+unfolding freshEmitter freshStore
+carries-fresh F j lent hj fits = record {
+  phase = rw (add-zero, mod-eq-of-lt hj) refl;
+  row = sym (zero-mod (F .depth));
+  fits = rw length-sets fits;
+}
+
+-- ---- one more step
+
+-- no ground refuses a step whose numbers and lengths are all right
+no-ground : (F : Frame) (e : Emitter) (a : Send) → e .state .phase < F .phases → e .state .row < F .depth → F .depth * cells F ≤ length (e .store)
+    → length (a .room) ≡ F .width → givenGrounds F (e .state .phase) (a .given) ≡ Fine → sendGrounds F e a ≡ Fine
+unfolding sendGrounds stateGround16 ground17 shortStore
+no-ground F e a hp hr hs hl hg = λ i.
+    ground? 16 (when (lt-leb (F .phases) (e .state .phase) hp i || lt-leb (F .depth) (e .state .row) hr i) 0)
+    else ground? 17 (when (le-ltb (length (e .store)) (F .depth * cells F) hs i || not (eq-eqb (length (a .room)) (F .width) hl i)) 0)
+    else hg i
+
+-- nor data of the right count and size
+data-fine : (F : Frame) (j : ℕ) (ds : List ℕ) → InputAt F (frameEntries F) j ds → givenGrounds F j (symbol ds) ≡ Fine
+unfolding givenGrounds
+data-fine F j ds f = λ i.
+    ground? 18 (when (not (eq-eqb (length ds) (dataCount F j) (f .many) i)) 0)
+    else ground? 19 (none-lowest (λ c. ltb topData (getD ds c 0)) (length ds) (λ c l. le-ltb topData (getD ds c 0) (f .small c l)) i)
+
+flush-fine : (F : Frame) (j : ℕ) → givenGrounds F j flush ≡ Fine
+unfolding givenGrounds
+flush-fine F j = refl
+
+module _ (F : Frame) (ok : Sound F) (j : ℕ) (e : Emitter) (fresh : FreshIn F j e) (steps : List Send) where
+  carries : Carries F j (length (sent (frameEntries F) e steps)) (emitterAfter (frameEntries F) e steps)
+  carries =
+      rw (fresh .is-fresh)
+      (rw zero-add at (carries-after F j 0 (freshEmitter F j (fresh .lent)) steps (ok .depth-pos) (carries-fresh F j (fresh .lent) (fresh .phase-in) (fresh .fits))))
+
+  pub sends : (a : Send) → length (a .room) ≡ F .width → givenGrounds F (phaseOf F j (length (sent (frameEntries F) e steps))) (a .given) ≡ Fine
+      → isSent (frameStep F (emitterAfter (frameEntries F) e steps) a .answer) ≡ true
+  sends a hl hg =
+      let w : Emitter = emitterAfter (frameEntries F) e steps in
+      let n : ℕ = length (sent (frameEntries F) e steps) in
+      let t = carries in
+      sent-fine F w a .1
+      (no-ground F w a (rw (t .phase) (mod-lt (j + n) (omega (arith, fresh .phase-in)))) (rw (t .row) (mod-lt n (ok .depth-pos))) (t .fits) hl (rw (t .phase) hg))
+
+  pub emits : (ds room : List ℕ) → InputAt F (frameEntries F) (phaseOf F j (length (sent (frameEntries F) e steps))) ds → length room ≡ F .width
+      → isSent (frameStep F (emitterAfter (frameEntries F) e steps) (record { given = symbol ds; room = room }) .answer) ≡ true
+  emits ds room f hl = sends (record { given = symbol ds; room = room }) hl (data-fine F (phaseOf F j (length (sent (frameEntries F) e steps))) ds f)
+
+  pub flushes : (room : List ℕ) → length room ≡ F .width
+      → isSent (frameStep F (emitterAfter (frameEntries F) e steps) (record { given = flush; room = room }) .answer) ≡ true
+  flushes room hl = sends (record { given = flush; room = room }) hl (flush-fine F (phaseOf F j (length (sent (frameEntries F) e steps))))
