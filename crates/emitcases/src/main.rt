@@ -74,15 +74,15 @@ fn step(
     told(next, answer, symbol)
 }
 
-// The run after so many steps.
-fn steps(start: Run, plan: &[u8], need: usize, count: u32, store: &mut [u16; STORE]) -> Run {
+// The run after a step for each byte.
+fn steps(start: Run, plan: &[u8], need: usize, bytes: &[u8], store: &mut [u16; STORE]) -> Run {
     let mut symbol = [BEFORE; ROOM];
     let mut run = start;
-    let mut left = count;
-    while 0 < left {
-        let next = step(run, console::next_byte(), plan, need, store, &mut symbol);
+    let mut i: usize = 0;
+    while i < bytes.len() {
+        let next = step(run, bytes[i], plan, need, store, &mut symbol);
         run = next;
-        left -= 1;
+        i += 1;
     }
     run
 }
@@ -100,22 +100,26 @@ fn mixed_tight(sum: u32, plan: &[u8], phase: u32, need: usize, store: &mut [u16;
 
 // The line of a case.
 fn print_run(run: Run, sum: u32) -> bool {
-    console::print_line(b"# # #\n", [run.sent, run.refused, sum, 0, 0, 0, 0])
+    console::print_line(
+        b"emitcases",
+        b"# # #\n",
+        [run.sent, run.refused, sum, 0, 0, 0, 0],
+    )
 }
 
-// The steps of a case from its fresh start on, and its line; the steps of a refused one are read and not taken.
+// The steps of a case from its fresh start on, and its line; the steps of a refused one are not taken.
 fn started(
     answer: StartAnswer,
     sum: u32,
     plan: &[u8],
     need: usize,
-    count: u32,
+    bytes: &[u8],
     store: &mut [u16; STORE],
 ) -> bool {
     match answer {
         StartAnswer::Refused(number, place) => {
-            console::skip(count);
-            console::print_refused(number, place, sums::mixed_cells(sum, store, STORE))
+            let end = sums::mixed_cells(sum, store, STORE);
+            console::print_refused(b"emitcases", number, place, end)
         }
         StartAnswer::Started(state) => {
             let begun = Run {
@@ -125,34 +129,48 @@ fn started(
                 sent: 0,
                 refused: 0,
             };
-            let run = steps(begun, plan, need, count, store);
+            let run = steps(begun, plan, need, bytes, store);
             let end = sums::mixed_cells(run.sum, store, STORE);
             print_run(run, end)
         }
     }
 }
 
-// A case with its plan read: N_D, the fresh starts, the steps.
-fn start(plan: &[u8], phase: u32, count: u32, store: &mut [u16; STORE]) -> bool {
+// A case that is read: N_D, the fresh starts, the steps.
+fn start(plan: &[u8], phase: u32, bytes: &[u8], store: &mut [u16; STORE]) -> bool {
     let need = trials::need_of(plan);
     let tight = mixed_tight(mixed_counts(plan), plan, phase, need, store);
     let answer = trials::fresh_emitter(plan, phase, STORE, store);
     let sum = sums::mixed_start(tight, answer);
-    started(answer, sum, plan, need, count, store)
+    started(answer, sum, plan, need, bytes, store)
 }
 
-// One case; false where the input has ended or its line was not written.
-fn one_case() -> bool {
-    let length = console::next_number();
-    let phase = console::next_number();
-    let count = console::next_number();
-    if count == 4294967295 {
+// Reads a plan and steps of these lengths and tries them; false where they could not be read whole or the line was not written.
+fn try_case(plan: &mut [u8], phase: u32, bytes: &mut [u8]) -> bool {
+    if !console::fill(b"emitcases", plan) {
         return false;
     }
-    let mut buf = io::large_buffer();
+    if !console::fill(b"emitcases", bytes) {
+        return false;
+    }
     let mut store = [BEFORE; STORE];
-    let n = console::read_plan(length, &mut buf);
-    start(&buf[..n], phase, count, &mut store)
+    start(plan, phase, bytes, &mut store)
+}
+
+// One case; false where the input has ended, or this case was not read or not printed.
+fn one_case() -> bool {
+    let mut head = [0u8; 12];
+    if !console::fill(b"emitcases", &mut head) {
+        return false;
+    }
+    let length = console::number_at(&head, 0);
+    let phase = console::number_at(&head, 1);
+    let count = console::number_at(&head, 2);
+    let mut plan = io::large_buffer();
+    let mut bytes = io::large_buffer();
+    let n = console::at_most(length as usize, &plan);
+    let k = console::at_most(count as usize, &bytes);
+    try_case(&mut plan[..n], phase, &mut bytes[..k])
 }
 
 // The lines of up to 1000 cases.

@@ -60,7 +60,7 @@ pub(crate) fn count_of(link: Link, input: u32, counts: &[u16; PHASES]) -> usize 
 // The link after a difference; the first is printed, as a text with its numbers.
 pub(crate) fn differs(link: Link, text: &[u8], numbers: [u32; 7]) -> Link {
     if link.right {
-        console::print_line(text, numbers);
+        console::print_line(b"linkcheck", text, numbers);
     }
     let mut next = link;
     next.right = false;

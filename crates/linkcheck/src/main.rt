@@ -1,11 +1,13 @@
 // Reads a plan on standard input and tries the link under it: from each of the 128 starting phases an emitter and a receiver that hears what
 // is sent, with steps mixed in that have to be refused and change nothing. Every answer and every cell that comes out is compared with what
-// was put in. Prints one line: `ok 128 phases ..`, or the first difference, `differs ..`; for a refused plan plancheck's line. A longer input
-// than any plan is read on, up to 64 MiB, so that its writer can finish.
+// was put in. Prints one line: `ok 128 phases ..`, or the first difference, `differs ..`; for a refused plan plancheck's line. Where a read
+// of the first 65,536 bytes fails, or the line cannot be written, standard error is told. A longer input than any plan is read on, up to
+// 64 MiB, so that its writer can finish.
 mod link;
 mod receives;
 mod sends;
 
+use console::Input;
 use link::Link;
 use link::PHASES;
 use link::RIGHT;
@@ -140,6 +142,7 @@ fn check_link(plan: &[u8]) {
     let link = runs(new_link(plan), plan, &counts);
     if link.right {
         console::print_line(
+            b"linkcheck",
             b"ok # phases # symbols # cells # flushes # refused\n",
             [
                 link.phases,
@@ -159,7 +162,7 @@ fn print_refused(number: u32, place: u32) {
     let line = text::refused_line(number, place);
     let text = line.text;
     let len = line.len;
-    io::write_all(1, &text[..len]);
+    console::print(b"linkcheck", &text[..len]);
 }
 
 // Judges a plan, and tries the link under an accepted one.
@@ -170,21 +173,15 @@ fn check_plan(plan: &[u8]) {
     }
 }
 
-// Reads on and throws away; false where the input has ended.
-fn read_on() -> bool {
-    let mut buf = io::large_buffer();
-    0 < io::read_full(0, &mut buf)
-}
-
 fn main() {
     let mut buf = io::large_buffer();
-    let n = io::read_full(0, &mut buf);
-    check_plan(&buf[..n]);
-    let mut left: u32 = 1024;
-    while 0 < left {
-        if !read_on() {
-            return;
+    match console::read(&mut buf) {
+        Input::Failed => console::tell_unread(b"linkcheck"),
+        Input::Bytes(n) => {
+            check_plan(&buf[..n]);
+            if n == 65536 {
+                console::read_on(&mut buf);
+            }
         }
-        left -= 1;
     }
 }

@@ -1,24 +1,25 @@
 // Reads a plan on standard input and prints one line: `ok 425 4` (N_I, and how many subcarriers are scattered at phase 0), or
-// `refused 14 835` (number, place). A longer input than any plan is read on, up to 64 MiB, so that its writer can finish.
+// `refused 14 835` (number, place). Where a read of the first 65,536 bytes fails, or the line cannot be written, standard error is told.
+// A longer input than any plan is read on, up to 64 MiB, so that its writer can finish.
+use console::Input;
 
-// Reads on and throws away; false where the input has ended.
-fn read_on() -> bool {
-    let mut buf = io::large_buffer();
-    0 < io::read_full(0, &mut buf)
+// Prints the line of a plan.
+fn print_plan(plan: &[u8]) {
+    let line = report::plan_line(plan);
+    let text = line.text;
+    let len = line.len;
+    console::print(b"plancheck", &text[..len]);
 }
 
 fn main() {
     let mut buf = io::large_buffer();
-    let n = io::read_full(0, &mut buf);
-    let line = report::plan_line(&buf[..n]);
-    let text = line.text;
-    let len = line.len;
-    io::write_all(1, &text[..len]);
-    let mut left: u32 = 1024;
-    while 0 < left {
-        if !read_on() {
-            return;
+    match console::read(&mut buf) {
+        Input::Failed => console::tell_unread(b"plancheck"),
+        Input::Bytes(n) => {
+            print_plan(&buf[..n]);
+            if n == 65536 {
+                console::read_on(&mut buf);
+            }
         }
-        left -= 1;
     }
 }

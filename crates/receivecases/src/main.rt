@@ -22,8 +22,10 @@ const LINE: usize = 4097;
 // What stands in all cells at the start of a case.
 const BEFORE: u16 = 43981;
 
-// A run: both states, the generator of data, the checksum, and how many receives answered warming, data and a refusal.
+// A run: whether all its acts could be read, both states, the generator of data, the checksum, and how many receives answered warming, data
+// and a refusal.
 struct Run {
+    read: bool,
     emitter: EmitterState,
     receiver: ReceiverState,
     x: u32,
@@ -33,9 +35,11 @@ struct Run {
     refused: u32,
 }
 
-// What a receive is given: numbers added to those of the state, how many cells of store, line and data buffer, and two changes of the line, each
-// a place in its upper two bytes and a cell in the lower two.
-struct Given {
+// An act, false in `read` where it could not be read whole. What a receive is given: numbers added to those of the state, how many cells of
+// store, line and data buffer, and two changes of the line, each a place in its upper two bytes and a cell in the lower two.
+struct Act {
+    read: bool,
+    act: u8,
     phase: u32,
     row: u32,
     heard: u32,
@@ -73,21 +77,35 @@ fn send(run: Run, act: u8, plan: &[u8], store: &mut [u16; STORE], line: &mut [u1
     next
 }
 
-// What an act of the receiver is given, of act 3 read from standard input.
-fn given_of(act: u8) -> Given {
-    if act == 3 {
-        return Given {
-            phase: console::next_number(),
-            row: console::next_number(),
-            heard: console::next_number(),
-            store: console::next_number(),
-            symbol: console::next_number(),
-            buffer: console::next_number(),
-            first: console::next_number(),
-            second: console::next_number(),
-        };
+// Act 3, with its eight numbers from standard input.
+fn given_act() -> Act {
+    let mut bytes = [0u8; 32];
+    let read = console::fill(b"receivecases", &mut bytes);
+    Act {
+        read,
+        act: 3,
+        phase: console::number_at(&bytes, 0),
+        row: console::number_at(&bytes, 1),
+        heard: console::number_at(&bytes, 2),
+        store: console::number_at(&bytes, 3),
+        symbol: console::number_at(&bytes, 4),
+        buffer: console::number_at(&bytes, 5),
+        first: console::number_at(&bytes, 6),
+        second: console::number_at(&bytes, 7),
     }
-    Given {
+}
+
+// The next act of standard input; those other than 3 are given what is right.
+fn next_act() -> Act {
+    let mut one = [0u8; 1];
+    let read = console::fill(b"receivecases", &mut one);
+    let act = one[0];
+    if read && act == 3 {
+        return given_act();
+    }
+    Act {
+        read,
+        act,
         phase: 0,
         row: 0,
         heard: 0,
@@ -100,7 +118,7 @@ fn given_of(act: u8) -> Given {
 }
 
 // The step that a receive is given.
-fn receiving(state: ReceiverState, given: Given) -> Receiving {
+fn receiving(state: ReceiverState, given: Act) -> Receiving {
     Receiving {
         phase: std::num::wrapping_add_u32(state.phase, given.phase),
         row: std::num::wrapping_add_u32(state.row, given.row),
@@ -142,16 +160,15 @@ fn told(run: Run, answer: ReceiveAnswer) -> Run {
 // receive nothing.
 fn receive(
     run: Run,
-    act: u8,
+    given: Act,
     plan: &[u8],
     store: &mut [u16; STORE],
     line: &mut [u16; LINE],
     buffer: &mut [u16; SYMBOL],
 ) -> Run {
-    if act < 2 {
+    if given.act < 2 {
         return run;
     }
-    let given = given_of(act);
     let first = changed(line, given.first);
     let second = changed(line, given.second);
     let step = receiving(run.receiver, given);
@@ -163,7 +180,7 @@ fn receive(
     next
 }
 
-// The run after so many acts.
+// The run after so many acts, or up to the one that could not be read.
 fn acts(
     begun: Run,
     count: u32,
@@ -176,9 +193,13 @@ fn acts(
     let mut run = begun;
     let mut left = count;
     while 0 < left {
-        let act = console::next_byte();
-        let sending = send(run, act, plan, sent, &mut line);
-        let next = receive(sending, act, plan, store, &mut line, &mut buffer);
+        let given = next_act();
+        if !given.read {
+            run.read = false;
+            return run;
+        }
+        let sending = send(run, given.act, plan, sent, &mut line);
+        let next = receive(sending, given, plan, store, &mut line, &mut buffer);
         run = next;
         left -= 1;
     }
@@ -215,6 +236,7 @@ fn started(
 ) -> Run {
     let mut sent = [BEFORE; STORE];
     let begun = Run {
+        read: true,
         emitter: fresh_emitter(plan, receiver.phase, &mut sent),
         receiver,
         x: 1,
@@ -228,21 +250,26 @@ fn started(
     run
 }
 
-// The line of a case.
+// The line of a case; none where it could not be read whole.
 fn print_run(run: Run) -> bool {
+    if !run.read {
+        return false;
+    }
     console::print_line(
+        b"receivecases",
         b"# # # #\n",
         [run.warmed, run.handed, run.refused, run.sum, 0, 0, 0],
     )
 }
 
-// A case with its plan read: the fresh starts, then the acts, and its line.
+// A case whose plan is read: the fresh starts, then the acts, and its line.
 fn start(plan: &[u8], phase: u32, need: u32, count: u32, store: &mut [u16; STORE]) -> bool {
     let tight = mixed_tight(plan, phase, need, store);
     let answer = trials::fresh_receiver(plan, phase, STORE, store);
     let sum = sums::mixed_listen(tight, answer);
     match answer {
         ListenAnswer::Refused(number, place) => console::print_refused(
+            b"receivecases",
             number,
             place,
             sums::mixed_cells(sum, store, STORE),
@@ -254,19 +281,28 @@ fn start(plan: &[u8], phase: u32, need: u32, count: u32, store: &mut [u16; STORE
     }
 }
 
-// One case; false where the input has ended or its line was not written.
-fn one_case() -> bool {
-    let length = console::next_number();
-    let phase = console::next_number();
-    let need = console::next_number();
-    let count = console::next_number();
-    if count == 4294967295 {
+// Reads a plan of this length and tries it; false where the case could not be read whole or its line was not written.
+fn try_case(plan: &mut [u8], phase: u32, need: u32, count: u32) -> bool {
+    if !console::fill(b"receivecases", plan) {
         return false;
     }
-    let mut buf = io::large_buffer();
     let mut store = [BEFORE; STORE];
-    let n = console::read_plan(length, &mut buf);
-    start(&buf[..n], phase, need, count, &mut store)
+    start(plan, phase, need, count, &mut store)
+}
+
+// One case; false where the input has ended, or this case was not read or not printed.
+fn one_case() -> bool {
+    let mut head = [0u8; 16];
+    if !console::fill(b"receivecases", &mut head) {
+        return false;
+    }
+    let length = console::number_at(&head, 0);
+    let phase = console::number_at(&head, 1);
+    let need = console::number_at(&head, 2);
+    let count = console::number_at(&head, 3);
+    let mut buf = io::large_buffer();
+    let n = console::at_most(length as usize, &buf);
+    try_case(&mut buf[..n], phase, need, count)
 }
 
 // The lines of up to 1000 cases.

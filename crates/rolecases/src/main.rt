@@ -1,8 +1,8 @@
 // Asks `roles::predefined_pilots` and `judge::role`, and prints what tests/roles.py works out with the second model. The first line is
 // the checksum of the pilots of every L from 0 to 65535. Then each case has a line: of the answers for subcarriers 0 to 4096, 66388
 // and 4294967295, how many were excluded, PLC, continuous, scattered, data and refused, and the checksum of all in this order.
-// Standard input holds, for each case, the plan's length as four bytes, high byte first and the upper two zero, the phase as four
-// bytes, high byte first, and then the plan. tests/roles.py makes stdin and stdout.
+// Standard input holds, for each case, the plan's length and the phase as four bytes each, high byte first, and then the plan.
+// tests/roles.py makes stdin and stdout.
 ghost use Prim.Native.Nat.{_<_};
 use rules::Role;
 use rules::RoleAnswer;
@@ -65,16 +65,25 @@ fn tally_of(plan: &[u8], phase: u32) -> [u32; 7] {
     asked(more, plan, 4294967295, phase)
 }
 
-// One case: the roles of a plan, and its line; false where the input has ended or the line was not written.
-fn one_case() -> bool {
-    let length = console::next_number();
-    if length == 4294967295 {
+// Reads a plan of this length and prints the line of its roles; false where it could not be read whole or its line was not written.
+fn ask_case(plan: &mut [u8], phase: u32) -> bool {
+    if !console::fill(b"rolecases", plan) {
         return false;
     }
-    let phase = console::next_number();
+    console::print_line(b"rolecases", b"# # # # # # #\n", tally_of(plan, phase))
+}
+
+// One case; false where the input has ended, or this case was not read or not printed.
+fn one_case() -> bool {
+    let mut head = [0u8; 8];
+    if !console::fill(b"rolecases", &mut head) {
+        return false;
+    }
+    let length = console::number_at(&head, 0);
+    let phase = console::number_at(&head, 1);
     let mut buf = io::large_buffer();
-    let n = console::read_plan(length, &mut buf);
-    console::print_line(b"# # # # # # #\n", tally_of(&buf[..n], phase))
+    let n = console::at_most(length as usize, &buf);
+    ask_case(&mut buf[..n], phase)
 }
 
 // The checksum of the predefined pilots of every L.
@@ -92,7 +101,9 @@ fn all_pilots() -> u32 {
 
 // The line of the pilots, then the lines of up to 1000 cases.
 fn main() {
-    console::print_line(b"#\n", [all_pilots(), 0, 0, 0, 0, 0, 0]);
+    if !console::print_line(b"rolecases", b"#\n", [all_pilots(), 0, 0, 0, 0, 0, 0]) {
+        return;
+    }
     let mut left: u32 = 1000;
     while 0 < left {
         if !one_case() {

@@ -1,31 +1,33 @@
--- `emitcases::steps` ends: the steps that are left fall at each turn. Assumes nothing.
+-- `emitcases::steps` ends: the bytes that are left fall at each turn. Assumes nothing.
 use borrow.Author.Needs.{needs}
+use Prim.Native.Nat.{_-_, _≤_}
+use lib.ListN.{length}
 use Rattle.emitcases.proofs.steps.Statement.{statement}
 use Rattle.emitcases.proofs.steps.Tie as tie
 
 abbrev Inv-loop : tie.InvT-loop
-Inv-loop plan need count store₀ symbol₀ run₀ left₀ store symbol run left = Unit {0}
+Inv-loop plan need bytes store₀ symbol₀ run₀ i₀ store symbol run i = i ≤ length bytes
 
 abbrev μ-loop : tie.MeasureT-loop
-μ-loop plan need count store₀ symbol₀ run₀ left₀ store symbol run left = left
+μ-loop plan need bytes store₀ symbol₀ run₀ i₀ store symbol run i = length bytes - i
 
 loop-holds : tie.Need-loop-holds Inv-loop μ-loop
-loop-holds c = tt
+loop-holds c = search needs
 
-next-byte-requires : tie.Need-next-byte-requires Inv-loop μ-loop
-next-byte-requires c κs = search needs
+shared-slice-read-step : tie.Need-shared-slice-read-step Inv-loop μ-loop
+shared-slice-read-step c = search needs
 
 step-requires : tie.Need-step-requires Inv-loop μ-loop
 step-requires c κs = search needs
 
-sub-left : tie.Need-sub-left Inv-loop μ-loop
-sub-left c = search needs
+add-i : tie.Need-add-i Inv-loop μ-loop
+add-i c = search needs
 
 loop-less : tie.Need-loop-less Inv-loop μ-loop
 loop-less c = search needs
 
 loop-again : tie.Need-loop-again Inv-loop μ-loop
-loop-again c = tt
+loop-again c = search needs
 
 returns : tie.Need-returns Inv-loop μ-loop
 returns c = search needs
@@ -37,9 +39,9 @@ steps-spec =
     Inv-loop
     μ-loop
     loop-holds
-    next-byte-requires
+    shared-slice-read-step
     step-requires
-    sub-left
+    add-i
     loop-less
     loop-again
     returns)

@@ -1,69 +1,70 @@
--- `linkcheck::main` ends: what is left to read falls at each turn. Assumes nothing.
+-- `linkcheck::main` lends on as many bytes as were read. Assumes nothing.
 use borrow.Author.Needs.{needs}
+use Rattle.console.proofs.Counting.{counted}
 use Rattle.linkcheck.proofs.main.Statement.{statement}
 use Rattle.linkcheck.proofs.main.Tie as tie
 
-abbrev Inv-loop : tie.InvT-loop
-Inv-loop n left₀ left = Unit {0}
-
-abbrev μ-loop : tie.MeasureT-loop
-μ-loop n left₀ left = left
-
-large-buffer-requires : tie.Need-large-buffer-requires Inv-loop μ-loop
+large-buffer-requires : tie.Need-large-buffer-requires
 large-buffer-requires c κs = search needs
 
-slice-aggregate-read-full : tie.Need-slice-aggregate-read-full Inv-loop μ-loop
-slice-aggregate-read-full c = search needs
+slice-aggregate-read : tie.Need-slice-aggregate-read
+slice-aggregate-read c = search needs
 
-read-full-requires : tie.Need-read-full-requires Inv-loop μ-loop
-read-full-requires c κs = search needs
+read-requires : tie.Need-read-requires
+read-requires c κs = search needs
 
-array-share-prefix-buf : tie.Need-array-share-prefix-buf Inv-loop μ-loop
-array-share-prefix-buf c = search needs
+enum-told : tie.Need-enum-told
+enum-told c = search needs
 
-slice-aggregate-check-plan : tie.Need-slice-aggregate-check-plan Inv-loop μ-loop
-slice-aggregate-check-plan c = search needs
+slice-aggregate-tell-unread : tie.Need-slice-aggregate-tell-unread
+slice-aggregate-tell-unread c = search needs
 
-check-plan-requires : tie.Need-check-plan-requires Inv-loop μ-loop
+tell-unread-requires : tie.Need-tell-unread-requires
+tell-unread-requires c κs = search needs
+
+enum-known-n : tie.Need-enum-known-n
+enum-known-n c = search needs
+
+array-share-prefix-buf : tie.Need-array-share-prefix-buf
+array-share-prefix-buf c = counted _ _ _ (c .before .n .given .1) (c .before .before .before .before .read .ensures) .0
+
+slice-aggregate-check-plan : tie.Need-slice-aggregate-check-plan
+slice-aggregate-check-plan c = counted _ _ _ (c .before .before .n .given .1) (c .before .before .before .before .before .read .ensures) .1
+
+check-plan-requires : tie.Need-check-plan-requires
 check-plan-requires c κs = search needs
 
-loop-holds : tie.Need-loop-holds Inv-loop μ-loop
-loop-holds c = tt
+slice-aggregate-read-on : tie.Need-slice-aggregate-read-on
+slice-aggregate-read-on c = search needs
 
-read-on-requires : tie.Need-read-on-requires Inv-loop μ-loop
+read-on-requires : tie.Need-read-on-requires
 read-on-requires c κs = search needs
 
-returns : tie.Need-returns Inv-loop μ-loop
+returns : tie.Need-returns
 returns c = search needs
 
-sub-left : tie.Need-sub-left Inv-loop μ-loop
-sub-left c = search needs
-
-loop-less : tie.Need-loop-less Inv-loop μ-loop
-loop-less c = search needs
-
-loop-again : tie.Need-loop-again Inv-loop μ-loop
-loop-again c = tt
-
-returns-2 : tie.Need-returns-2 Inv-loop μ-loop
+returns-2 : tie.Need-returns-2
 returns-2 c = search needs
+
+returns-3 : tie.Need-returns-3
+returns-3 c = search needs
 
 pub main-spec : {M : Type 1} → statement M
 main-spec =
     tie.close
     (tie.spec
-    Inv-loop
-    μ-loop
     large-buffer-requires
-    slice-aggregate-read-full
-    read-full-requires
+    slice-aggregate-read
+    read-requires
+    enum-told
+    slice-aggregate-tell-unread
+    tell-unread-requires
+    enum-known-n
     array-share-prefix-buf
     slice-aggregate-check-plan
     check-plan-requires
-    loop-holds
+    slice-aggregate-read-on
     read-on-requires
     returns
-    sub-left
-    loop-less
-    loop-again
-    returns-2)
+    returns-2
+    returns-3)

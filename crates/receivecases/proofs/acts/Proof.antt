@@ -12,8 +12,11 @@ abbrev μ-loop : tie.MeasureT-loop
 loop-holds : tie.Need-loop-holds Inv-loop μ-loop
 loop-holds c = tt
 
-next-byte-requires : tie.Need-next-byte-requires Inv-loop μ-loop
-next-byte-requires c κs = search needs
+next-act-requires : tie.Need-next-act-requires Inv-loop μ-loop
+next-act-requires c κs = search needs
+
+returns : tie.Need-returns Inv-loop μ-loop
+returns c = search needs
 
 send-requires : tie.Need-send-requires Inv-loop μ-loop
 send-requires c κs = search needs
@@ -30,8 +33,8 @@ loop-less c = search needs
 loop-again : tie.Need-loop-again Inv-loop μ-loop
 loop-again c = tt
 
-returns : tie.Need-returns Inv-loop μ-loop
-returns c = search needs
+returns-2 : tie.Need-returns-2 Inv-loop μ-loop
+returns-2 c = search needs
 
 pub acts-spec : {M : Type 1} → statement M
 acts-spec =
@@ -40,10 +43,11 @@ acts-spec =
     Inv-loop
     μ-loop
     loop-holds
-    next-byte-requires
+    next-act-requires
+    returns
     send-requires
     receive-requires
     sub-left
     loop-less
     loop-again
-    returns)
+    returns-2)

@@ -12,11 +12,17 @@ abbrev μ-loop : tie.MeasureT-loop
 slice-aggregate-print-line : tie.Need-slice-aggregate-print-line Inv-loop μ-loop
 slice-aggregate-print-line c = search needs
 
+slice-aggregate-print-line-2 : tie.Need-slice-aggregate-print-line-2 Inv-loop μ-loop
+slice-aggregate-print-line-2 c = search needs
+
 all-pilots-requires : tie.Need-all-pilots-requires Inv-loop μ-loop
 all-pilots-requires c κs = search needs
 
 print-line-requires : tie.Need-print-line-requires Inv-loop μ-loop
 print-line-requires c κs = search needs
+
+returns : tie.Need-returns Inv-loop μ-loop
+returns c = search needs
 
 loop-holds : tie.Need-loop-holds Inv-loop μ-loop
 loop-holds c = tt
@@ -24,8 +30,8 @@ loop-holds c = tt
 one-case-requires : tie.Need-one-case-requires Inv-loop μ-loop
 one-case-requires c κs = search needs
 
-returns : tie.Need-returns Inv-loop μ-loop
-returns c = search needs
+returns-2 : tie.Need-returns-2 Inv-loop μ-loop
+returns-2 c = search needs
 
 sub-left : tie.Need-sub-left Inv-loop μ-loop
 sub-left c = search needs
@@ -36,8 +42,8 @@ loop-less c = search needs
 loop-again : tie.Need-loop-again Inv-loop μ-loop
 loop-again c = tt
 
-returns-2 : tie.Need-returns-2 Inv-loop μ-loop
-returns-2 c = search needs
+returns-3 : tie.Need-returns-3 Inv-loop μ-loop
+returns-3 c = search needs
 
 pub main-spec : {M : Type 1} → statement M
 main-spec =
@@ -46,12 +52,14 @@ main-spec =
     Inv-loop
     μ-loop
     slice-aggregate-print-line
+    slice-aggregate-print-line-2
     all-pilots-requires
     print-line-requires
+    returns
     loop-holds
     one-case-requires
-    returns
+    returns-2
     sub-left
     loop-less
     loop-again
-    returns-2)
+    returns-3)

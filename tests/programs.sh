@@ -1,0 +1,179 @@
+#!/usr/bin/env bash
+# What the programs print and tell where they cannot read or write, as docs/PLANCHECK.md says: input closed, a folder, a read that fails in
+# the middle, output closed or full; and what is no failure: input that ends, that comes in small parts, or that is longer than any plan.
+# Needs gcc, and the programs, built by `rt check` or `rt ci`.
+#
+#     tests/programs.sh            the programs of target/bin
+#     tests/programs.sh FOLDER     those of another folder
+set -eu
+cd "$(dirname "$0")/.."
+bin=${1:-target/bin}
+work=$(mktemp -d)
+trap 'rm -rf "$work"' EXIT
+runs=0
+differences=0
+
+# A `read` that puts at most READ_STEP bytes at a time and fails once READ_BYTES were read, to stand before that of the C library.
+cat > "$work/reads.c" << 'END'
+#define _GNU_SOURCE
+#include <errno.h>
+#include <stdlib.h>
+#include <sys/syscall.h>
+#include <unistd.h>
+
+static size_t number(const char *name)
+{
+    const char *text = getenv(name);
+    return text ? strtoul(text, NULL, 10) : (size_t)-1;
+}
+
+ssize_t read(int descriptor, void *bytes, size_t size)
+{
+    static size_t done;
+    size_t left = number("READ_BYTES") - done;
+    size_t step = number("READ_STEP");
+    if (left == 0) {
+        errno = EIO;
+        return -1;
+    }
+    if (step < left)
+        left = step;
+    ssize_t got = syscall(SYS_read, descriptor, bytes, size < left ? size : left);
+    if (got > 0)
+        done += (size_t)got;
+    return got;
+}
+END
+gcc -std=c11 -Wall -Wextra -Werror -O2 -shared -fPIC "$work/reads.c" -o "$work/reads.so"
+
+differs() {
+    echo "programs.sh: DIFFERS: $1"
+    differences=$((differences + 1))
+}
+
+# try COMMAND ..: runs it and keeps what it writes, and its status.
+try() {
+    status=0
+    "$@" > "$work/out" 2> "$work/err" || status=$?
+}
+
+# part BYTES COMMAND ..: the same with reads that fail after so many bytes.
+part() {
+    local bytes=$1
+    shift
+    try env READ_BYTES="$bytes" LD_PRELOAD="$work/reads.so" "$@"
+}
+
+# is LINES FILE: the file has these lines, each with its end, and no more.
+is() {
+    { [ -z "$1" ] || printf '%s\n' "$1"; } | cmp -s - "$2"
+}
+
+# said WHAT LINES TOLD: the run wrote these lines, told standard error this and no more, and ended with status 0.
+said() {
+    runs=$((runs + 1))
+    [ "$status" -eq 0 ] || differs "$1: status $status"
+    is "$2" "$work/out" || differs "$1: standard output has: $(head -c 200 "$work/out")"
+    is "$3" "$work/err" || differs "$1: standard error has: $(head -c 200 "$work/err")"
+}
+
+# each PROGRAM LINES LESS FIRST: on its stored input it prints these lines; where the last byte is not read LESS of them, and where nothing
+# is read only FIRST.
+each() {
+    local program=$1 given=crates/$1/stdin unread="$1: standard input cannot be read"
+    try "$bin/$program" < "$given"
+    said "$program" "$2" ''
+    try "$bin/$program" plans/refused-14.plan --help < "$given"
+    said "$program with arguments" "$2" ''
+    try env READ_STEP=1000 LD_PRELOAD="$work/reads.so" "$bin/$program" < "$given"
+    said "$program on input in parts" "$2" ''
+    try "$bin/$program" <&-
+    said "$program with its input closed" "$4" "$unread"
+    try "$bin/$program" < .
+    said "$program on a folder" "$4" "$unread"
+    part 3 "$bin/$program" < "$given"
+    said "$program where the read fails after 3 bytes" "$4" "$unread"
+    part $(($(wc -c < "$given") - 1)) "$bin/$program" < "$given"
+    said "$program where the last byte is not read" "$3" "$unread"
+}
+
+# Output that cannot be written: full, and closed.
+unwritten() {
+    : > "$work/out"
+    for output in full closed; do
+        status=0
+        if [ $output = full ]; then
+            "$bin/$1" < "crates/$1/stdin" > /dev/full 2> "$work/err" || status=$?
+        else
+            "$bin/$1" < "crates/$1/stdin" >&- 2> "$work/err" || status=$?
+        fi
+        said "$1 with its output $output" '' "$1: standard output cannot be written"
+    done
+}
+
+# The bench programs: no bytes, a read that fails on a plan's record, and input that is longer than any plan.
+bench() {
+    local program=$1 unread="$1: standard input cannot be read"
+    try "$bin/$program" < /dev/null
+    said "$program on no bytes" 'refused 1 0' ''
+    for bytes in 8 16 24; do
+        part $bytes "$bin/$program" < plans/plan-a.plan
+        said "$program where the read fails after $bytes bytes" '' "$unread"
+    done
+    head -c 70000 /dev/zero > "$work/long"
+    part 65535 "$bin/$program" < "$work/long"
+    said "$program where the read fails after 65,535 bytes" '' "$unread"
+    part 65536 "$bin/$program" < "$work/long"
+    said "$program where the read fails after 65,536 bytes" 'refused 1 0' ''
+    set +e
+    head -c 67108864 /dev/zero | "$bin/$program" > "$work/out" 2> "$work/err"
+    status=$((PIPESTATUS[0] + PIPESTATUS[1]))
+    set -e
+    said "$program on 64 MiB, with the status of their writer" 'refused 1 0' ''
+}
+
+# A program that is stopped and goes on while it reads has not failed.
+stopped() {
+    mkfifo "$work/pipe"
+    "$bin/plancheck" < "$work/pipe" > "$work/out" 2> "$work/err" &
+    local reader=$!
+    exec 3> "$work/pipe"
+    head -c 8 plans/plan-a.plan >&3
+    sleep 0.2
+    kill -STOP $reader
+    sleep 0.2
+    kill -CONT $reader
+    tail -c +9 plans/plan-a.plan >&3
+    exec 3>&-
+    status=0
+    wait $reader || status=$?
+    said 'plancheck stopped in the middle' 'ok 425 4' ''
+}
+
+# The stack in KiB that docs/PLANCHECK.md gives each program is enough.
+stack() {
+    status=0
+    (ulimit -s "$2" && exec env -i "$bin/$1" < "crates/$1/stdin") > "$work/out" 2> "$work/err" || status=$?
+    said "$1 with a stack of $2 KiB" "$(cat "crates/$1/stdout")" ''
+}
+
+for program in plancheck linkcheck; do
+    each $program "$(cat crates/$program/stdout)" '' ''
+done
+for program in plancases emitcases receivecases; do
+    each $program "$(cat crates/$program/stdout)" "$(sed '$d' crates/$program/stdout)" ''
+done
+each rolecases "$(cat crates/rolecases/stdout)" "$(sed '$d' crates/rolecases/stdout)" "$(head -n 1 crates/rolecases/stdout)"
+for program in plancheck linkcheck plancases rolecases emitcases receivecases; do
+    unwritten $program
+done
+bench plancheck
+bench linkcheck
+stopped
+grep -oE '^- `[a-z]+`: [0-9]+ KiB' docs/PLANCHECK.md | tr -d '`:-' > "$work/stacks"
+while read -r program size unit; do
+    stack "$program" "$size"
+done < "$work/stacks"
+[ "$(wc -l < "$work/stacks")" -eq 6 ] || differs 'docs/PLANCHECK.md does not give the stack of six programs'
+[ $differences -eq 0 ] || { echo "programs.sh: $differences differences in $runs runs"; exit 1; }
+echo "programs.sh: $runs runs, all as said"
