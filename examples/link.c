@@ -5,7 +5,8 @@
  *     gcc -O2 -Iinclude examples/link.c target/staticlib/libheadend.a -o link
  *     ./link plans/plan-a.plan
  *
- * A real host puts a line, or a file, between send() and hear(); docs/C-HOST.md tells the rest. */
+ * A real host puts a line, or a file, between send() and hear(), and numbers its symbols: examples/trunks.c. docs/C-HOST.md tells the
+ * rest. */
 #include "headend.h"
 
 #include <stdio.h>
@@ -22,7 +23,7 @@ struct end {
 };
 
 struct plan {
-    uint8_t bytes[4097]; /* one more than a plan may have, so that a longer file is refused */
+    uint8_t bytes[HEADEND_PLAN_BYTES_MAX + 1]; /* one more than a plan may have, so that a longer file is refused */
     size_t len;
     uint32_t depth, cells; /* M and N_I */
 };
@@ -36,34 +37,21 @@ struct traffic {
     uint32_t back; /* symbols of data that came back */
 };
 
-/* A number of the answer: four bytes, high byte first. */
-static uint32_t answer_number(const uint8_t *answer, int at)
-{
-    return (uint32_t)answer[at] << 24 | (uint32_t)answer[at + 1] << 16 | (uint32_t)answer[at + 2] << 8 | answer[at + 3];
-}
-
-/* A cell is two bytes, high byte first. */
-static void put_cell(uint8_t *cells, size_t i, unsigned cell)
-{
-    cells[2 * i] = (uint8_t)(cell >> 8);
-    cells[2 * i + 1] = (uint8_t)cell;
-}
-
 /* Ends the program if a call was refused. */
 static void must(const char *call, uint32_t refused, const uint8_t *answer)
 {
-    if (refused == 0)
+    if (refused == HEADEND_ACCEPTED)
         return;
-    fprintf(stderr, "%s: refused by %u at %u\n", call, (unsigned)refused, (unsigned)answer_number(answer, HEADEND_PLACE));
+    fprintf(stderr, "%s: refused by %u at %u\n", call, (unsigned)refused, (unsigned)headend_number(answer, HEADEND_PLACE));
     exit(1);
 }
 
 /* Takes the state of the next step from the answer. */
 static void next_state(struct end *e, const uint8_t *answer)
 {
-    e->phase = answer_number(answer, HEADEND_PHASE);
-    e->row = answer_number(answer, HEADEND_ROW);
-    e->heard = answer_number(answer, HEADEND_HEARD);
+    e->phase = headend_number(answer, HEADEND_PHASE);
+    e->row = headend_number(answer, HEADEND_ROW);
+    e->heard = headend_number(answer, HEADEND_HEARD);
 }
 
 static void read_plan(struct plan *p, const char *path)
@@ -77,8 +65,8 @@ static void read_plan(struct plan *p, const char *path)
     p->len = fread(p->bytes, 1, sizeof p->bytes, f);
     fclose(f);
     must("judge", headend_judge(p->bytes, p->len, answer, sizeof answer), answer);
-    p->cells = answer_number(answer, HEADEND_VALUE);
-    p->depth = (uint32_t)p->bytes[6] << 8 | p->bytes[7]; /* the second number of record 0 */
+    p->cells = headend_number(answer, HEADEND_VALUE);
+    p->depth = headend_depth(p->bytes);
     printf("%s: accepted, N_I %u, depth %u\n", path, (unsigned)p->cells, (unsigned)p->depth);
 }
 
@@ -111,9 +99,9 @@ static void make_data(const struct plan *p, const struct end *e, struct traffic 
 {
     uint8_t answer[HEADEND_ANSWER_BYTES];
     must("data_count", headend_data_count(p->bytes, p->len, e->phase, answer, sizeof answer), answer);
-    uint32_t count = answer_number(answer, HEADEND_VALUE);
+    uint32_t count = headend_number(answer, HEADEND_VALUE);
     for (uint32_t i = 0; i < count; i++)
-        put_cell(t->data[symbol], i, (symbol * 4099 + i * 31) % 16384);
+        headend_put_cell(t->data[symbol], i, (symbol * 4099 + i * 31) % (HEADEND_CELL_DATA_MAX + 1));
     t->data_len[symbol] = (size_t)2 * count;
 }
 
@@ -146,7 +134,7 @@ static void hear(const struct plan *p, struct end *e, struct traffic *t)
                          sizeof t->received, answer, sizeof answer),
          answer);
     next_state(e, answer);
-    size_t received_len = (size_t)2 * answer_number(answer, HEADEND_VALUE);
+    size_t received_len = (size_t)2 * headend_number(answer, HEADEND_VALUE);
     if (received_len == 0)
         return; /* warming */
     if (received_len != t->data_len[t->back] || memcmp(t->received, t->data[t->back], received_len) != 0) {
@@ -156,14 +144,16 @@ static void hear(const struct plan *p, struct end *e, struct traffic *t)
     t->back++;
 }
 
-/* A refused call changes nothing: the host can mend what was wrong and call again. */
+/* A refused call changes no store, symbol or data: the host can mend what was wrong and call again. */
 static void show_refusal(const struct plan *p, struct end *e, struct traffic *t)
 {
     uint8_t answer[HEADEND_ANSWER_BYTES];
     uint32_t refused = emit(p, e, t, t->data[0], 2, answer);
     printf("one cell of data alone: refused by %u at %u, the state still phase %u, row %u\n", (unsigned)refused,
-           (unsigned)answer_number(answer, HEADEND_PLACE), (unsigned)answer_number(answer, HEADEND_PHASE),
-           (unsigned)answer_number(answer, HEADEND_ROW));
+           (unsigned)headend_number(answer, HEADEND_PLACE), (unsigned)headend_number(answer, HEADEND_PHASE),
+           (unsigned)headend_number(answer, HEADEND_ROW));
+    if (refused != HEADEND_REFUSED_DATA_COUNT)
+        exit(1);
 }
 
 int main(int argc, char **argv)

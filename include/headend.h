@@ -1,14 +1,14 @@
-/* The head end's symbol path for a C host: libheadend.a, built by `rt staticlib headend`. docs/C-HOST.md tells more.
+/* The head end's symbol path for a C host: libheadend.a, built by `rt staticlib headend`, for x86-64. docs/C-HOST.md tells more.
  *
  * Every call returns the number of the ground that refuses it, 0 if none, and writes the rest of its answer into the first
  * HEADEND_ANSWER_BYTES bytes of `answer`, five numbers of four bytes each, high byte first (HEADEND_PLACE and so on say where).
- * A refused call changes no store, symbol or data, and its answer gives the state back as it was passed in (0 for a refused fresh start,
- * which was passed none).
+ * A refused call writes its answer and changes no store, symbol or data. Its answer gives the state back as it was passed in (0 for a
+ * refused fresh start, which was passed none). With a shorter `answer` a call returns 21 and writes nothing.
  *
  * A cell is two bytes, high byte first. A plan and each buffer pass as a pointer and a length in bytes. What is relied on: each pointer
- * is good for the length passed with it, and a buffer that a call writes overlaps no other. Nothing else: any bytes and any numbers may
- * be passed. No call keeps a pointer, allocates, blocks or uses a global, so calls on different buffers may run at the same time.
- * A call needs up to HEADEND_STACK_BYTES of stack.
+ * is good for the length passed with it (with length 0 it may be NULL), and a buffer that a call writes overlaps no other. Nothing else:
+ * any bytes and any numbers may be passed. No call keeps a pointer, allocates, blocks or uses a global, so calls on different buffers may
+ * run at the same time. A call needs up to HEADEND_STACK_BYTES of stack: that is measured, and no part of the proof.
  */
 #ifndef HEADEND_H
 #define HEADEND_H
@@ -18,6 +18,18 @@
 
 #ifdef __cplusplus
 extern "C" {
+#endif
+
+/* Grows by one whenever a call takes, answers or writes something else for the same bytes, or a name below has another value or goes.
+ * A name or a helper that is added does not count. 1 was the interface as it came, 2 counts the widths; headers from before this name
+ * are of 1 or of 2. */
+#define HEADEND_VERSION 2
+
+/* The number that a call returns is not to be ignored: gcc and clang warn. */
+#ifdef __GNUC__
+#define HEADEND_NOT_IGNORED __attribute__((warn_unused_result))
+#else
+#define HEADEND_NOT_IGNORED
 #endif
 
 /* The answer buffer: its least length, and where each number of four bytes begins. What a call does not give is 0. */
@@ -35,44 +47,171 @@ extern "C" {
 #define HEADEND_SCATTERED 4
 #define HEADEND_DATA 5
 
+/* What a cell may hold: data from 0 to HEADEND_CELL_DATA_MAX, or a mark. */
+#define HEADEND_CELL_DATA_MAX 16383u
+#define HEADEND_CELL_SCATTERED 0x8000u  /* the place of a scattered pilot */
+#define HEADEND_CELL_FILLER 0x8001u     /* no data: of a flush or a fresh start */
+#define HEADEND_CELL_EXCLUDED 0x8002u
+#define HEADEND_CELL_CONTINUOUS 0x8003u
+#define HEADEND_CELL_PLC 0x8004u
+
+#define HEADEND_SUBCARRIERS 4096u        /* 0 to 4095 */
+#define HEADEND_PHASES 128u              /* 0 to 127 */
+#define HEADEND_DEPTH_MAX 32u            /* M is 1 to 32 */
+#define HEADEND_PLAN_BYTES_MAX 4096u     /* a plan: 8 bytes a record, up to 512 records */
 #define HEADEND_SYMBOL_BYTES 8192u       /* a symbol: 4,096 cells */
 #define HEADEND_STORE_BYTES_MAX 239680u  /* the largest store: 32 rows of 3,745 cells; a plan needs 2 * M * N_I bytes */
 #define HEADEND_DATA_BYTES_MAX 7490u     /* more data cells than N_I no symbol has */
 #define HEADEND_STACK_BYTES 131072u      /* some 73,000 were measured */
 
+/* What a call returns: 0, or the ground that refuses it, in the words of the rules, with its place in brackets, 0 where none is named.
+ * A call tries 21, then 1 to 15, along the chain 2 to 5 for each record before the next is read, then those of 16 to 20 that speak of
+ * what it is given, and refuses by the first that holds. 9 to 12 count: the width of a band a to b is b - a + 1, the span is the highest
+ * active subcarrier less the lowest, plus one. */
+#define HEADEND_ACCEPTED 0u
+/* The plan's length is below 8, above 4,096 or not a multiple of 8. */
+#define HEADEND_REFUSED_PLAN_LENGTH 1u
+/* The kind is not 1 to 3, record 0 is not kind 1, a later one is, byte 1 is not zero, or a kind 3 second number is not zero (record). */
+#define HEADEND_REFUSED_RECORD_KIND 2u
+/* The next index is nonzero and not above the record's own, or not below the number of records (record). */
+#define HEADEND_REFUSED_NEXT_INDEX 3u
+/* L is outside 204 to 3885, M outside 1 to 32, a pilot or range end above 4095, or a range begins above its end (record). */
+#define HEADEND_REFUSED_RECORD_NUMBERS 4u
+/* This is the 121st kind 3 record (record). */
+#define HEADEND_REFUSED_PILOT_COUNT 5u
+/* A subcarrier below 148 or above 3948 is active (lowest). */
+#define HEADEND_REFUSED_ACTIVE_OUTSIDE 6u
+/* A subcarrier of L - 56 to L + 63 is excluded (lowest). */
+#define HEADEND_REFUSED_EXCLUDED_AROUND_PLC 7u
+/* A kind 3 pilot is excluded, in the PLC, predefined, or named earlier on the chain (record, first on the chain). */
+#define HEADEND_REFUSED_PILOT_TAKEN 8u
+/* A band is narrower than 40 (its lowest subcarrier, lowest band). */
+#define HEADEND_REFUSED_NARROW_BAND 9u
+/* No band has width 440 or more. */
+#define HEADEND_REFUSED_NO_WIDE_BAND 10u
+/* Five times the excluded subcarriers between lowest and highest active exceeds the span. */
+#define HEADEND_REFUSED_EXCLUDED_IN_SPAN 11u
+/* Twenty times a band's individually excluded exceeds its width (its lowest subcarrier, lowest band). */
+#define HEADEND_REFUSED_EXCLUDED_IN_BAND 12u
+/* A window of 120 has more than 6 excluded (lowest window's first subcarrier). */
+#define HEADEND_REFUSED_WINDOW_OF_120 13u
+/* A window of 20 has more than 4 excluded (lowest window's first subcarrier). */
+#define HEADEND_REFUSED_WINDOW_OF_20 14u
+/* N_I exceeds 3745. */
+#define HEADEND_REFUSED_RANKS 15u
+/* A phase, row, heard or subcarrier given is out of its range. */
+#define HEADEND_REFUSED_OUT_OF_RANGE 16u
+/* The store is shorter than M * N_I, a symbol is not 4,096 cells, or, where the answer would not be warming, the data buffer is shorter
+ * than the count. */
+#define HEADEND_REFUSED_BUFFER_LENGTH 17u
+/* The emitter is given other than N_D data cells. */
+#define HEADEND_REFUSED_DATA_COUNT 18u
+/* A data cell exceeds 16383 (its position, lowest). */
+#define HEADEND_REFUSED_DATA_CELL 19u
+/* An arriving cell isn't its role's mark, or for a data role neither data nor filler (subcarrier, lowest). */
+#define HEADEND_REFUSED_ARRIVING_CELL 20u
+/* A cell buffer of odd length or too short an answer buffer. */
+#define HEADEND_REFUSED_BUFFER_BYTES 21u
+
 /* Judges a plan. Value: N_I. Refuses by 1 to 15 and 21. */
+HEADEND_NOT_IGNORED
 uint32_t headend_judge(const uint8_t *plan, size_t plan_len, uint8_t *answer, size_t answer_len);
 
 /* The role of a subcarrier at a phase. Value: the role. Refuses by 1 to 16 and 21. */
+HEADEND_NOT_IGNORED
 uint32_t headend_role(const uint8_t *plan, size_t plan_len, uint32_t subcarrier, uint32_t phase, uint8_t *answer, size_t answer_len);
 
-/* How many data cells a symbol emitted at a phase takes. Value: N_D, at least 1. Refuses by 1 to 16 and 21. */
+/* How many data cells an input symbol at a phase has: so many an emit at that phase takes. Value: N_D, at least 1. It is not the number of
+ * data cells of the symbol emitted at that phase: the placeholders of one input symbol belong to M emitted ones. Refuses by 1 to 16 and
+ * 21. */
+HEADEND_NOT_IGNORED
 uint32_t headend_data_count(const uint8_t *plan, size_t plan_len, uint32_t phase, uint8_t *answer, size_t answer_len);
 
 /* Fills a store as a fresh emitter's whose first step is at `phase`. Phase and row: the state of that step. Bytes of the store past
  * 2 * M * N_I are untouched. Refuses by 1 to 17 and 21. */
+HEADEND_NOT_IGNORED
 uint32_t headend_fresh_emitter(const uint8_t *plan, size_t plan_len, uint32_t phase, uint8_t *store, size_t store_len,
                                uint8_t *answer, size_t answer_len);
 
-/* Fills a store as a fresh receiver's whose first symbol comes at `phase`. Phase, row and heard: the state of that step. Refuses by 1 to 17
- * and 21. */
+/* Fills a store as a fresh receiver's whose first symbol comes at `phase`. Phase, row and heard: the state of that step. Bytes of the
+ * store past 2 * M * N_I are untouched. Refuses by 1 to 17 and 21. */
+HEADEND_NOT_IGNORED
 uint32_t headend_fresh_receiver(const uint8_t *plan, size_t plan_len, uint32_t phase, uint8_t *store, size_t store_len,
                                 uint8_t *answer, size_t answer_len);
 
 /* Emits one symbol: takes N_D data cells (each 0 to 16383), writes the symbol on the line, and the store. Phase and row: the next state.
  * `data` is the whole input symbol and `symbol` exactly 8,192 bytes. Refuses by 1 to 19 and 21. */
+HEADEND_NOT_IGNORED
 uint32_t headend_emit(const uint8_t *plan, size_t plan_len, uint32_t phase, uint32_t row, uint8_t *store, size_t store_len,
                       const uint8_t *data, size_t data_len, uint8_t *symbol, size_t symbol_len, uint8_t *answer, size_t answer_len);
 
 /* Emits one symbol of filler. M - 1 flushes after the last data push all of it out. Refuses by 1 to 17 and 21. */
+HEADEND_NOT_IGNORED
 uint32_t headend_flush(const uint8_t *plan, size_t plan_len, uint32_t phase, uint32_t row, uint8_t *store, size_t store_len,
                        uint8_t *symbol, size_t symbol_len, uint8_t *answer, size_t answer_len);
 
 /* Receives one symbol. Value: how many cells of data (or filler) were written to the start of `data`, 0 only while warming, the first
- * M - 1 symbols after a fresh start; bytes past them are untouched. Phase, row and heard: the next state. Refuses by 1 to 17, 20 and 21. */
+ * M - 1 symbols after a fresh start; bytes past them are untouched. Phase, row and heard: the next state. Refuses by 1 to 17, 20 and 21.
+ * A symbol refused by 20 counts as lost unless it is mended and received after all (docs/C-HOST.md, "After a refusal"). */
+HEADEND_NOT_IGNORED
 uint32_t headend_receive(const uint8_t *plan, size_t plan_len, uint32_t phase, uint32_t row, uint32_t heard, uint8_t *store,
                          size_t store_len, const uint8_t *symbol, size_t symbol_len, uint8_t *data, size_t data_len,
                          uint8_t *answer, size_t answer_len);
+
+/* --- helpers: they are no part of the library and decide nothing --- */
+
+/* A number of an answer, as in headend_number(answer, HEADEND_PHASE). */
+static inline uint32_t headend_number(const uint8_t *answer, size_t at)
+{
+    return (uint32_t)answer[at] << 24 | (uint32_t)answer[at + 1] << 16 | (uint32_t)answer[at + 2] << 8 | (uint32_t)answer[at + 3];
+}
+
+/* Cell i of a store, a symbol or data. */
+static inline uint32_t headend_cell(const uint8_t *cells, size_t i)
+{
+    return (uint32_t)cells[2 * i] << 8 | (uint32_t)cells[2 * i + 1];
+}
+
+/* Writes cell i: the sixteen low bits of the number. */
+static inline void headend_put_cell(uint8_t *cells, size_t i, uint32_t cell)
+{
+    cells[2 * i] = (uint8_t)(cell >> 8 & 0xFFu);
+    cells[2 * i + 1] = (uint8_t)(cell & 0xFFu);
+}
+
+/* L, the lowest PLC subcarrier of an accepted plan. */
+static inline uint32_t headend_lowest_plc(const uint8_t *plan)
+{
+    return headend_cell(plan, 2);
+}
+
+/* M, the depth of an accepted plan. */
+static inline uint32_t headend_depth(const uint8_t *plan)
+{
+    return headend_cell(plan, 3);
+}
+
+/* What ground 20 takes at a role: its mark, and for a data role filler. */
+static inline uint32_t headend_mark(uint32_t role)
+{
+    switch (role) {
+    case HEADEND_EXCLUDED: return HEADEND_CELL_EXCLUDED;
+    case HEADEND_PLC: return HEADEND_CELL_PLC;
+    case HEADEND_CONTINUOUS: return HEADEND_CELL_CONTINUOUS;
+    case HEADEND_SCATTERED: return HEADEND_CELL_SCATTERED;
+    default: return HEADEND_CELL_FILLER;
+    }
+}
+
+/* The phase of a symbol of 8,192 bytes as it was emitted, by its lowest scattered placeholder: k is scattered at phase j if k - (L + 8) - j
+ * is a multiple of 128. HEADEND_PHASES if it has none, as at a phase at which no subcarrier is scattered. */
+static inline uint32_t headend_symbol_phase(const uint8_t *plan, const uint8_t *symbol)
+{
+    for (uint32_t k = 0; k < HEADEND_SUBCARRIERS; k++)
+        if (headend_cell(symbol, k) == HEADEND_CELL_SCATTERED)
+            return (k + HEADEND_SUBCARRIERS - headend_lowest_plc(plan) - 8u) % HEADEND_PHASES;
+    return HEADEND_PHASES;
+}
 
 #ifdef __cplusplus
 }

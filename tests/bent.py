@@ -8,6 +8,7 @@ writes into the folder
     straight.cases          few calls with right expectations, on which tests/host.c finds nothing
     bent-NN.cases           the same calls with one wrong expectation in each file
     wrong-NN.c              bench/plain.c with one mistake each, which the small cases have to tell
+    header-NN/headend.h     the header with one mistake each, which they have to tell too
 """
 
 import random
@@ -76,7 +77,10 @@ def write_cases(folder):
     cases = few(Cases(folder / ('bent-%02d.cases' % (len(BENT) + 1))))
     cases.calls += 1                        # a call that is missing
     cases.end()
-    return len(BENT) + 2
+    cases = few(Cases(folder / ('bent-%02d.cases' % (len(BENT) + 2))))
+    cases.empty.add(('flush', 'store'))     # a buffer that was not empty in any call
+    cases.end()
+    return len(BENT) + 3
 
 
 # --- wrong programs --------------------------------------------------------
@@ -96,6 +100,10 @@ WRONG = (
     ('struct refusal r = read_chain(p, plan, length);',
      'struct refusal r = read_chain(p, plan + *(volatile const uint8_t *)(plan - 1) * 0, length);'),
     ('i < (size_t)p.m * (size_t)p.n', 'i < store_len / 2'),
+    # NULL for an empty buffer, not expected
+    ('    if (length < RECORD ||', '    if (plan == NULL)\n        return refuse(2, 0);\n    if (length < RECORD ||'),
+    ('int warming = heard < ', 'int warming = data != NULL && heard < '),
+    ('    if (data_len / 2 != (size_t)data_count(p, phase))', '    if (data != NULL && data_len / 2 != (size_t)data_count(p, phase))'),
     # grounds
     ('|| c % 2 != 0', ''),
     ('|| s.heard >= (uint32_t)p->m', ''),
@@ -120,6 +128,30 @@ WRONG = (
 )
 
 
+# (what stands once in the header, what stands there instead): names, the answer's places, helpers
+WRONG_HEADER = (
+    ('VERSION 2', 'VERSION 3'), ('CELL_FILLER 0x8001u', 'CELL_FILLER 0x8002u'), ('CELL_DATA_MAX 16383u', 'CELL_DATA_MAX 16384u'),
+    ('HEADEND_ROW 8 ', 'HEADEND_ROW 12 '), ('HEADEND_SCATTERED 4', 'HEADEND_SCATTERED 5'),
+    ('HEADEND_REFUSED_RECORD_KIND 2u', 'HEADEND_REFUSED_RECORD_KIND 3u'), ('BUFFER_BYTES 21u', 'BUFFER_BYTES 20u'),
+    ('DEPTH_MAX 32u', 'DEPTH_MAX 31u'), ('DATA_BYTES_MAX 7490u', 'DATA_BYTES_MAX 7488u'),
+    ('(uint32_t)answer[at + 1] << 16', '(uint32_t)answer[at + 1] << 8'), ('(uint32_t)cells[2 * i] << 8', '(uint32_t)cells[i] << 8'),
+    ('cells[2 * i + 1] = (uint8_t)(cell & 0xFFu)', 'cells[2 * i + 1] = (uint8_t)(cell & 0x7Fu)'),
+    ('cell >> 8 & 0xFFu', 'cell >> 9 & 0xFFu'), ('headend_cell(plan, 2)', 'headend_cell(plan, 3)'),
+    ('headend_cell(plan, 3)', 'headend_cell(plan, 2)'), ('return HEADEND_CELL_PLC', 'return HEADEND_CELL_EXCLUDED'),
+    ('default: return HEADEND_CELL_FILLER', 'default: return HEADEND_CELL_SCATTERED'),
+    ('headend_lowest_plc(plan) - 8u', 'headend_lowest_plc(plan)'), ('    return HEADEND_PHASES;', '    return 0;'),
+)
+
+
+def write_headers(folder):
+    header = (ROOT / 'include' / 'headend.h').read_text()
+    for i, (old, new) in enumerate(WRONG_HEADER):
+        assert header.count(old) == 1, old
+        (folder / ('header-%02d' % i)).mkdir(exist_ok=True)
+        (folder / ('header-%02d' % i) / 'headend.h').write_text(header.replace(old, new))
+    return len(WRONG_HEADER)
+
+
 def write_programs(folder):
     plain = (ROOT / 'bench' / 'plain.c').read_text()
     for i, (old, new) in enumerate(WRONG):
@@ -132,7 +164,8 @@ def main():
     if len(sys.argv) != 2:
         sys.exit(__doc__)
     folder = Path(sys.argv[1])
-    print('%d wrong expectations and %d wrong programs written' % (write_cases(folder), write_programs(folder)))
+    print('%d wrong expectations, %d wrong programs and %d wrong headers written'
+          % (write_cases(folder), write_programs(folder), write_headers(folder)))
 
 
 if __name__ == '__main__':

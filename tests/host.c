@@ -4,7 +4,8 @@
  *     host [--stack] FILE
  *
  * Each call is made in four ways, on copies of its buffers at their exact length: between guard bytes, in heap blocks of their own
- * (for the address sanitizer and valgrind), and with a page that cannot be touched right behind or right before each buffer.
+ * (for the address sanitizer and valgrind), and with a page that cannot be touched right behind or right before each buffer; and where
+ * some of them are empty in a fifth, with NULL for those. The names and helpers of the header are compared too.
  * With --stack the calls run on a stack of their own, and what they use of it is measured. Prints one line, or the first difference and
  * ends with 1. */
 #define _DEFAULT_SOURCE
@@ -18,17 +19,32 @@
 #include <sys/mman.h>
 #include <ucontext.h>
 
-/* What tests/host.py takes for granted of the header. */
-_Static_assert(HEADEND_ANSWER_BYTES == 20 && HEADEND_PLACE == 0 && HEADEND_PHASE == 4 && HEADEND_ROW == 8, "the answer");
-_Static_assert(HEADEND_HEARD == 12 && HEADEND_VALUE == 16, "the answer");
-_Static_assert(HEADEND_EXCLUDED == 1 && HEADEND_PLC == 2 && HEADEND_CONTINUOUS == 3, "the roles");
-_Static_assert(HEADEND_SCATTERED == 4 && HEADEND_DATA == 5, "the roles");
-_Static_assert(HEADEND_SYMBOL_BYTES == 2 * 4096 && HEADEND_STORE_BYTES_MAX == 2 * 32 * 3745, "the sizes");
-_Static_assert(HEADEND_DATA_BYTES_MAX == 2 * 3745, "the sizes");
+/* The names of the header. */
+#define NAME(x) {#x, x}
+static const struct {
+    const char *name;
+    uint32_t value;
+} NAMES[] = {
+    NAME(HEADEND_VERSION),
+    NAME(HEADEND_ANSWER_BYTES), NAME(HEADEND_PLACE), NAME(HEADEND_PHASE), NAME(HEADEND_ROW), NAME(HEADEND_HEARD), NAME(HEADEND_VALUE),
+    NAME(HEADEND_EXCLUDED), NAME(HEADEND_PLC), NAME(HEADEND_CONTINUOUS), NAME(HEADEND_SCATTERED), NAME(HEADEND_DATA),
+    NAME(HEADEND_CELL_DATA_MAX), NAME(HEADEND_CELL_SCATTERED), NAME(HEADEND_CELL_FILLER), NAME(HEADEND_CELL_EXCLUDED),
+    NAME(HEADEND_CELL_CONTINUOUS), NAME(HEADEND_CELL_PLC),
+    NAME(HEADEND_SUBCARRIERS), NAME(HEADEND_PHASES), NAME(HEADEND_DEPTH_MAX), NAME(HEADEND_PLAN_BYTES_MAX), NAME(HEADEND_SYMBOL_BYTES),
+    NAME(HEADEND_STORE_BYTES_MAX), NAME(HEADEND_DATA_BYTES_MAX), NAME(HEADEND_STACK_BYTES),
+    NAME(HEADEND_ACCEPTED), NAME(HEADEND_REFUSED_PLAN_LENGTH), NAME(HEADEND_REFUSED_RECORD_KIND), NAME(HEADEND_REFUSED_NEXT_INDEX),
+    NAME(HEADEND_REFUSED_RECORD_NUMBERS), NAME(HEADEND_REFUSED_PILOT_COUNT), NAME(HEADEND_REFUSED_ACTIVE_OUTSIDE),
+    NAME(HEADEND_REFUSED_EXCLUDED_AROUND_PLC), NAME(HEADEND_REFUSED_PILOT_TAKEN), NAME(HEADEND_REFUSED_NARROW_BAND),
+    NAME(HEADEND_REFUSED_NO_WIDE_BAND), NAME(HEADEND_REFUSED_EXCLUDED_IN_SPAN), NAME(HEADEND_REFUSED_EXCLUDED_IN_BAND),
+    NAME(HEADEND_REFUSED_WINDOW_OF_120), NAME(HEADEND_REFUSED_WINDOW_OF_20), NAME(HEADEND_REFUSED_RANKS),
+    NAME(HEADEND_REFUSED_OUT_OF_RANGE), NAME(HEADEND_REFUSED_BUFFER_LENGTH), NAME(HEADEND_REFUSED_DATA_COUNT),
+    NAME(HEADEND_REFUSED_DATA_CELL), NAME(HEADEND_REFUSED_ARRIVING_CELL), NAME(HEADEND_REFUSED_BUFFER_BYTES),
+};
 
 enum { SLOTS = 7, BUFFERS = 5, NUMBERS = 3, GUARD = 64, GUARD_BYTE = 0x5A, PAGE = 65536, ROOM = 1 << 21, GROUNDS = 21, STACK = 1 << 20 };
 enum { JUDGE, ROLE, DATA_COUNT, FRESH_EMITTER, FRESH_RECEIVER, EMIT, FLUSH, RECEIVE, CALLS };
-enum { GUARDED, OWN_BLOCK, PAGE_BEHIND, PAGE_BEFORE, WAYS };
+enum { GUARDED, OWN_BLOCK, PAGE_BEHIND, PAGE_BEFORE, NULL_IF_EMPTY, WAYS };
+enum { NUMBER, CELL, PUT_CELL, LOWEST_PLC, DEPTH, MARK, SYMBOL_PHASE }; /* the helpers */
 
 static const struct {
     const char *name;
@@ -45,7 +61,8 @@ static const struct {
     {"receive", 3, 5, {"plan", "store", "symbol", "data", "answer"}},
 };
 
-static const char *const WAY[WAYS] = {"between guard bytes", "in its own block", "with a page behind", "with a page before"};
+static const char *const WAY[WAYS] = {"between guard bytes", "in its own block", "with a page behind", "with a page before",
+                                      "with NULL for empty ones"};
 
 /* A buffer before a call and as it has to be after it. */
 struct slot {
@@ -71,6 +88,8 @@ static struct {
 } file;
 static struct {
     uint32_t calls, returned; /* bit n of `returned`: some call returned n */
+    uint32_t nulls, null;     /* calls with a NULL, and bit n of `null`: the n-th of all buffers of all calls was NULL */
+    uint32_t names;           /* names and helpers compared */
     unsigned long long bytes;
     char name[200];
     uint8_t *arena[BUFFERS];
@@ -83,7 +102,7 @@ static struct {
     uint32_t returned;
 } own;
 
-static void fail(const char *form, ...)
+static _Noreturn void fail(const char *form, ...)
 {
     va_list rest;
     va_start(rest, form);
@@ -181,6 +200,58 @@ static void read_call(struct call *c)
         read_bytes(1);
 }
 
+/* --- the header's names and helpers --- */
+
+static void check_name(void)
+{
+    size_t length = number(), i = 0;
+    const char *name = (const char *)take(length);
+    uint32_t wanted = number();
+    const size_t all = sizeof NAMES / sizeof NAMES[0];
+    while (i < all && (strlen(NAMES[i].name) != length || memcmp(NAMES[i].name, name, length) != 0))
+        i++;
+    if (i == all)
+        fail("%.*s is not among the names", (int)length, name);
+    if (NAMES[i].value != wanted)
+        fail("%s is %lu, wanted %lu", NAMES[i].name, (unsigned long)NAMES[i].value, (unsigned long)wanted);
+    run.names++;
+}
+
+/* A helper on the bytes of a slot; `other` is the symbol where it takes two. */
+static uint32_t help(unsigned which, uint8_t *bytes, const uint8_t *other, uint32_t a, uint32_t b)
+{
+    switch (which) {
+    case NUMBER: return headend_number(bytes, a);
+    case CELL: return headend_cell(bytes, a);
+    case PUT_CELL: headend_put_cell(bytes, a, b); return 0;
+    case LOWEST_PLC: return headend_lowest_plc(bytes);
+    case DEPTH: return headend_depth(bytes);
+    case MARK: return headend_mark(a);
+    case SYMBOL_PHASE: return headend_symbol_phase(bytes, other);
+    default: fail("no helper %u", which);
+    }
+}
+
+static void check_helper(void)
+{
+    unsigned which = *take(1);
+    struct slot *s = a_slot(), *other = a_slot();
+    uint32_t a = number(), b = number(), wanted = number();
+    uint32_t answered = help(which, s->held, other->held, a, b);
+    if (answered != wanted)
+        fail("helper %u of %lu answered %lu, wanted %lu", which, (unsigned long)a, (unsigned long)answered, (unsigned long)wanted);
+    run.names++;
+}
+
+/* The slot holds these bytes. */
+static void check_bytes(void)
+{
+    struct slot *s = a_slot();
+    size_t length = number();
+    if (length != s->length || memcmp(s->held, take(length), length) != 0)
+        fail("a helper wrote something else");
+}
+
 /* --- the ways to lend a buffer --- */
 
 static uint8_t *make_arena(void)
@@ -195,7 +266,9 @@ static struct lent lend(int way, int i, const struct slot *s)
 {
     struct lent l = {NULL, NULL, 0, 0};
     size_t room = s->length < ROOM - GUARD ? GUARD : 0;
-    if (way == GUARDED || way == OWN_BLOCK) {
+    if (way == NULL_IF_EMPTY && s->length == 0)
+        return l;
+    if (way == GUARDED || way == OWN_BLOCK || way == NULL_IF_EMPTY) {
         l.before = l.behind = way == GUARDED ? GUARD : 0;
         l.block = malloc(l.before + s->length + l.behind);
         if (l.block == NULL)
@@ -226,6 +299,8 @@ static void compare(const struct call *c, int way, int i, const struct lent *l)
 {
     const struct slot *s = c->slots[i];
     const char *name = CALL[c->which].name, *buffer = CALL[c->which].buffer[i];
+    if (l->at == NULL)
+        return;
     if (memcmp(l->at, s->wanted, s->length) != 0) {
         size_t at = first_difference(l->at, s->wanted, s->length);
         fail("headend_%s, %s %s: byte %zu of %zu is %02x, wanted %02x", name, buffer, WAY[way], at, s->length, l->at[at], s->wanted[at]);
@@ -320,13 +395,31 @@ static void try_call(const struct call *c, int way)
         run.returned |= UINT32_C(1) << returned;
 }
 
+/* Which of all buffers of all calls are empty in this one, a bit each. */
+static uint32_t empty_buffers(const struct call *c)
+{
+    uint32_t empty = 0;
+    int first = 0;
+    for (unsigned which = 0; which < c->which; which++)
+        first += CALL[which].buffers;
+    for (int i = 0; i < CALL[c->which].buffers; i++)
+        if (c->slots[i]->length == 0)
+            empty |= UINT32_C(1) << (first + i);
+    return empty;
+}
+
 static void do_call(void)
 {
     struct call c;
     memset(&c, 0, sizeof c);
     read_call(&c);
-    for (int way = 0; way < WAYS; way++)
+    for (int way = 0; way < NULL_IF_EMPTY; way++)
         try_call(&c, way);
+    if (empty_buffers(&c) != 0) {
+        try_call(&c, NULL_IF_EMPTY);
+        run.nulls++;
+        run.null |= empty_buffers(&c);
+    }
     for (int i = 0; i < CALL[c.which].buffers; i++) {
         uint8_t *old = c.slots[i]->held;
         c.slots[i]->held = c.slots[i]->wanted;
@@ -337,14 +430,17 @@ static void do_call(void)
 
 static void end(void)
 {
-    uint32_t calls = number(), returned = number();
+    uint32_t calls = number(), returned = number(), null = number(), names = number();
     const uint32_t all = (UINT32_C(1) << (GROUNDS + 1)) - 1;
-    if (calls != run.calls)
-        fail("%lu calls were to be made", (unsigned long)calls);
+    if (calls != run.calls || names != run.names)
+        fail("%lu calls were to be made and %lu names compared", (unsigned long)calls, (unsigned long)names);
     if (returned != run.returned)
         fail("numbers %06lx were returned, wanted %06lx", (unsigned long)run.returned, (unsigned long)returned);
-    printf("host: %lu calls, %s, each in %d ways, %llu bytes compared", (unsigned long)run.calls,
-           returned == all ? "grounds 1..21 each reached" : "not all grounds reached", WAYS, run.bytes);
+    if (null != run.null)
+        fail("buffers %07lx were NULL, wanted %07lx", (unsigned long)run.null, (unsigned long)null);
+    printf("host: %lu calls, %s, each in 4 ways, %lu also with NULL, %llu bytes and %lu names compared", (unsigned long)run.calls,
+           returned == all ? "grounds 1..21 each reached" : "not all grounds reached", (unsigned long)run.nulls, run.bytes,
+           (unsigned long)run.names);
     if (own.bottom != NULL) {
         printf(", %zu bytes of stack used", stack_used());
         if (stack_used() > HEADEND_STACK_BYTES)
@@ -383,6 +479,9 @@ int main(int argc, char **argv)
         case 2: read_length(); break;
         case 3: read_bytes(0); break;
         case 4: do_call(); break;
+        case 5: check_name(); break;
+        case 6: check_helper(); break;
+        case 7: check_bytes(); break;
         default: fail("no item %u", item);
         }
     }

@@ -18,11 +18,19 @@ received, 6 the answer.
     4, call, numbers, slots, number, number of changes, then as after a 3 for each
                                         a call: its place in CALLS, its numbers and its buffers in the
                                         order of headend.h, what it returns, what changes in the slots
-    0, number, number                   the end: how many calls there were, and which numbers were
-                                        returned, bit n for n
+    5, number, bytes, number            a name of the header, so many bytes, and its value
+    6, helper, slot, slot, number, number, number
+                                        a helper: its place in HELPERS, the bytes it is given, two
+                                        numbers, what it answers
+    7, slot, number, bytes              the slot has so many bytes, and they are these
+    0, number, number, number, number   the end: how many calls there were; which numbers were
+                                        returned, bit n for n; which buffers were empty, bit n for
+                                        the n-th of all buffers of all calls; how many items of 5
+                                        and 6
 """
 
 import random
+import re
 import sys
 from array import array
 from collections import defaultdict
@@ -30,6 +38,7 @@ from collections import defaultdict
 sys.dont_write_bytecode = True
 
 import compare
+import loss
 import plans
 from receiver import Receiver
 from stored import ROOT
@@ -53,6 +62,14 @@ CALLS = {
     'flush': (2, 'plan store symbol answer', 2, {*range(1, 18), 21}),
     'receive': (3, 'plan store symbol data answer', 3, {*range(1, 18), 20, 21}),
 }
+
+BUFFERS = [(name, key) for name, (_, buffers, *_) in CALLS.items() for key in buffers.split()]
+HELPERS = ('number', 'cell', 'put_cell', 'lowest_plc', 'depth', 'mark', 'symbol_phase')
+HEADER = ROOT / 'include' / 'headend.h'
+GROUNDS = ('PLAN_LENGTH', 'RECORD_KIND', 'NEXT_INDEX', 'RECORD_NUMBERS', 'PILOT_COUNT', 'ACTIVE_OUTSIDE',
+           'EXCLUDED_AROUND_PLC', 'PILOT_TAKEN', 'NARROW_BAND', 'NO_WIDE_BAND', 'EXCLUDED_IN_SPAN',
+           'EXCLUDED_IN_BAND', 'WINDOW_OF_120', 'WINDOW_OF_20', 'RANKS', 'OUT_OF_RANGE', 'BUFFER_LENGTH',
+           'DATA_COUNT', 'DATA_CELL', 'ARRIVING_CELL', 'BUFFER_BYTES')
 
 
 def number(n):
@@ -162,6 +179,8 @@ class Cases:
         self.held = {}                      # of each slot, what tests/host.c has there
         self.calls = 0
         self.reached = defaultdict(set)     # of each call, what it returned
+        self.empty = set()                  # (call, buffer) that was empty in some call
+        self.names = 0                      # names and helpers
 
     def name(self, text):
         self.file.write(b'\1' + number(len(text)) + text.encode())
@@ -182,6 +201,8 @@ class Cases:
         given.setdefault('answer', bytes([0xA5]) * (ANSWER + self.calls % 3 * 11))
         for key, slot in slots.items():
             self.hold(slot, given[key])
+            if not given[key]:
+                self.empty.add((name, key))
         returned, after = self.model.call(name, numbers, given)
         self.reached[name].add(returned)
         wanted = self.bend(self.calls, returned, after) if self.bend else (returned, after)
@@ -202,9 +223,26 @@ class Cases:
               'data': HANDED if hears else GIVEN, 'symbol': LINE, 'answer': SAID}
         return {key: of[key] for key in CALLS[name][1].split()}
 
+    def header_name(self, name, value):
+        """A name of the header has this value."""
+        self.file.write(b'\5' + number(len(name)) + name.encode() + number(value))
+        self.names += 1
+
+    def helper(self, name, slot, a=0, b=0, want=0, other=PLAN):
+        """A helper of the header, on the bytes that a slot holds, answers this."""
+        self.file.write(bytes([6, HELPERS.index(name), slot, other]) + number(a) + number(b) + number(want))
+        self.names += 1
+
+    def put_cell(self, slot, i, cell):
+        """The helper that writes a cell, and the bytes that the slot has then."""
+        self.helper('put_cell', slot, i, cell)
+        self.held[slot] = with_cell(self.held[slot], i, cell % 65536)
+        self.file.write(bytes([7, slot]) + number(len(self.held[slot])) + self.held[slot])
+
     def end(self):
         reached = sum(1 << n for n in set().union(*self.reached.values()))
-        self.file.write(b'\0' + number(self.calls) + number(reached))
+        empty = sum(1 << n for n, buffer in enumerate(BUFFERS) if buffer in self.empty)
+        self.file.write(b'\0' + b''.join(map(number, (self.calls, reached, empty, self.names))))
         self.file.close()
 
 
@@ -365,6 +403,58 @@ class Link:
 
 # --- the cases -------------------------------------------------------------
 
+def names_of(limits):
+    """What each name of the header has to be."""
+    marks = {'SCATTERED': limits.scattered_mark, 'FILLER': limits.filler_mark, 'EXCLUDED': limits.excluded_mark,
+             'CONTINUOUS': limits.continuous_mark, 'PLC': limits.plc_mark, 'DATA_MAX': limits.last_data}
+    five = ('PLACE', 'PHASE', 'ROW', 'HEARD', 'VALUE')
+    store = limits.highest_m * limits.most_ranks
+    return {'VERSION': 2, 'ANSWER_BYTES': ANSWER, **{name: 4 * i for i, name in enumerate(five)},
+            **{name.upper(): 1 + i for i, name in enumerate(ROLES)},
+            **{'CELL_' + name: mark for name, mark in marks.items()},
+            'SUBCARRIERS': limits.last_subcarrier + 1, 'PHASES': limits.phases, 'DEPTH_MAX': limits.highest_m,
+            'PLAN_BYTES_MAX': limits.longest, 'SYMBOL_BYTES': 2 * limits.cells, 'STORE_BYTES_MAX': 2 * store,
+            'DATA_BYTES_MAX': 2 * limits.most_ranks, 'STACK_BYTES': 131072, 'ACCEPTED': 0,
+            **{'REFUSED_' + name: 1 + i for i, name in enumerate(GROUNDS)}}
+
+
+def header_names(cases):
+    """Every name that the header defines, and no other."""
+    cases.name('the names of the header')
+    names = {'HEADEND_' + name: value for name, value in names_of(cases.model.limits).items()}
+    defined = set(re.findall(r'^#define (HEADEND_\w+) +\w', HEADER.read_text(), re.M)) - {'HEADEND_NOT_IGNORED'}
+    assert defined == set(names), defined ^ set(names)
+    for name, value in names.items():
+        cases.header_name(name, value)
+
+
+def helpers(cases, phases):
+    """The helpers of the header, on bytes that are no palindromes, and on symbols of all phases."""
+    cases.name('the helpers of the header')
+    rng, model = random.Random(8), cases.model
+    cases.hold(SAID, b''.join(map(number, (*ODD_NUMBERS, 0x00FF10EF, TOP))))
+    for i, n in enumerate((*ODD_NUMBERS, 0x00FF10EF, TOP)):
+        cases.helper('number', SAID, 4 * i, want=n)
+    cells = [0, 1, 255, 256, 16383, 16384, 0x8001, 65535, *(rng.randrange(65536) for _ in range(20))]
+    cases.hold(GIVEN, to_bytes(cells))
+    for i, cell in enumerate(cells):
+        cases.helper('cell', GIVEN, i, want=cell)
+    for i, cell in enumerate((0x1234, 65535, 0, 0x12345678, TOP, 0x80, 0x8000)):
+        cases.put_cell(GIVEN, rng.randrange(len(cells)), cell)
+    marks = names_of(model.limits)
+    for i, role in enumerate(('EXCLUDED', 'PLC', 'CONTINUOUS', 'SCATTERED', 'FILLER')):
+        cases.helper('mark', GIVEN, 1 + i, want=marks['CELL_' + role])
+    for plan in (plans.PLAN_A, (ROOT / loss.NO_SCATTERED).read_bytes(), at_depth(plans.LARGEST, 31)):
+        at = model.layout(plan)
+        cases.hold(PLAN, plan)
+        cases.helper('lowest_plc', PLAN, want=at.map.l)
+        cases.helper('depth', PLAN, want=at.m)
+        for phase in phases:
+            cases.hold(LINE, to_bytes([7 if mark is None else mark for mark in model.marks_at(at, phase)]))
+            some = model.scattered_of(at.map, phase)
+            cases.helper('symbol_phase', PLAN, want=phase if some else 128, other=LINE)
+
+
 def verdicts(cases, some):
     """The example plans, then the plans that compare.py makes, those of cases.py among them."""
     for path in sorted((ROOT / 'plans').glob('*.plan')):
@@ -477,6 +567,79 @@ def runs(cases, depths, large, all_wrong, long):
     Link(cases, plans.near_a(M=3), 5, 9).run(long, 0)
 
 
+def empty_buffers(cases):
+    """Each call with each of its buffers empty, and with all of them: tests/host.c passes NULL for it."""
+    plan, rng = plans.near_a(M=2), random.Random(9)
+    link = Link(cases, plan, 60, 3)
+    link.send()
+    cases.name('empty buffers')
+    refused = {'plan': 1, 'store': 17, 'symbol': 17, 'data': 18, 'answer': 21}
+    for name, (takes, buffers, *_) in CALLS.items():
+        data = some_data(rng, cases.model.count(link.at, 60)) if name == 'emit' else some_bytes(rng, link.at.n)
+        hears = name in ('receive', 'fresh_receiver')
+        full = {'plan': plan, 'store': link.listening if hears else link.sending, 'data': data, 'symbol': link.symbol,
+                'answer': bytes(ANSWER)}
+        full = {key: full[key] for key in buffers.split()}
+        numbers = (60, 0, 0)[:takes]
+        assert cases.call(name, *numbers, **full)[0] == 0
+        for key in full:
+            want = 0 if (name, key) == ('receive', 'data') else refused[key]     # warming, any data buffer will do
+            assert cases.call(name, *numbers, **{**full, key: b''})[0] == want
+        assert cases.call(name, *numbers, **dict.fromkeys(full, b''))[0] == 21
+        assert cases.call(name, *numbers, **{**dict.fromkeys(full, b''), 'answer': bytes(ANSWER)})[0] == 1
+    assert cases.call('receive', 61, 1, 1, **{**full, 'data': b''})[0] == 17     # not warming
+
+
+def losses(cases):
+    """A symbol that is lost, which nobody sees; one that is refused by 20 and left alone; one that is mended; and
+    a receiver that starts afresh. tests/loss.py says what comes of each."""
+    plan = (ROOT / loss.NO_SCATTERED).read_bytes()
+    cases.name('a lost symbol that nobody sees')
+    link, wrong, returned = Link(cases, plan, 50, 12), 0, 0
+    for t in range(27):
+        link.send()
+        if t == 16:                                 # of phase 66
+            continue
+        assert returned == 0
+        returned, after = link.receive()
+        count = int.from_bytes(after['answer'][16:20], 'big')
+        wrong += count > 0 and after['data'][:2 * count] != link.sent[link.t - link.at.m + 1][:2 * count]
+        link.listening, link.state, link.t = after['store'], link.next_state(after['answer'], 3), link.t + 1
+    assert (returned, wrong, link.state[0]) == (20, 9, 75), (returned, wrong, link.state)
+    cases.name('a receiver that starts afresh')
+    link.listen(0)
+    link.run(6, 0)
+    cases.name('a wrong symbol left alone, then mended')
+    link.send()
+    good, wrong = link.symbol, link.symbol
+    for k in (972, 0, 800, 925):                    # PLC, excluded, data, continuous
+        wrong = with_cell(wrong, k, 65535)
+    link.send()
+    for symbol in (wrong, link.symbol):             # the next one is refused too
+        assert link.receive(symbol=symbol)[0] == 20
+    for want in (0, 800, 925, 972):
+        returned, after = link.receive(symbol=wrong)
+        assert (returned, int.from_bytes(after['answer'][:4], 'big')) == (20, want)
+        mark = cases.model.marks_at(link.at, link.state[0])[want]
+        wrong = with_cell(wrong, want, 0x8001 if mark is None else mark)
+    assert wrong == with_cell(good, 800, 0x8001)
+    for symbol in (wrong, link.symbol):
+        returned, after = link.receive(symbol=symbol)
+        assert returned == 0
+        link.listening, link.state = after['store'], link.next_state(after['answer'], 3)
+
+
+def check_words():
+    """docs/C-HOST.md has the header's names of the grounds, with the same words and in their order."""
+    header = re.findall(r'/\* ((?:[^*]|\*[^/])*) \*/\n#define HEADEND_REFUSED_(\w+) (\d+)u', HEADER.read_text())
+    assert [(name, int(n)) for _, name, n in header] == [(name, 1 + i) for i, name in enumerate(GROUNDS)]
+    page = (ROOT / 'docs' / 'C-HOST.md').read_text()
+    for words, name, n in header:
+        words = ' '.join(words.replace('\n *', ' ').split()).replace(' * ', ' × ')
+        shown = '%s. `HEADEND_REFUSED_%s`. %s' % (n, name, words)
+        assert shown in ' '.join(page.split()), 'docs/C-HOST.md should have ' + shown
+
+
 def check_page():
     """The four answers that docs/C-HOST.md shows."""
     model, a, page = Interface(), plans.PLAN_A, (ROOT / 'docs' / 'C-HOST.md').read_text()
@@ -496,20 +659,29 @@ def check_reached(cases):
     """Each call gave every ground that headend.h says it can give, and no other."""
     for name, (*_, grounds) in CALLS.items():
         assert cases.reached[name] == {0} | grounds, (name, cases.reached[name] ^ ({0} | grounds))
+    assert cases.empty == set(BUFFERS)
 
 
 def write(path, small):
     cases = Cases(path)
+    header_names(cases)
+    helpers(cases, range(0, 128, 5) if small else range(128))
     verdicts(cases, 0 if small else 600)
     roles(cases, range(0, 4096, 127) if small else range(4096))
     counts(cases, (0, 1, 63, 127) if small else range(128))
     refused_plans(cases)
     lent_rooms(cases)
+    empty_buffers(cases)
+    losses(cases)
     any_states(cases, (1, 31) if small else (1, 2, 3, 4, 7, 16, 31, 32))
     runs(cases, (1, 3, 4) if small else range(1, 33), (2,) if small else (1, 2, 3, 4, 7, 31, 32),
          (1, 4) if small else (1, 2, 4, 7), 5 if small else 140)
     check_reached(cases)
     check_page()
+    check_words()
+    if not small:
+        thousands = '%d,000 calls' % (cases.calls // 1000)
+        assert thousands in (ROOT / 'docs' / 'C-HOST.md').read_text(), 'docs/C-HOST.md should have ' + thousands
     cases.end()
     print('%d calls written' % cases.calls)
 

@@ -1,6 +1,7 @@
 #!/usr/bin/env bash
 # The host tests: libheadend.a against the second model, through include/headend.h; the two C implementations of the benchmark, which must
-# do the same work; and the tests themselves: wrong expectations and wrong programs must be reported. Needs rt, Python 3, gcc and valgrind.
+# do the same work; the header and the examples; and the tests themselves: wrong expectations, programs and headers must be reported. Needs
+# rt, Python 3, gcc and valgrind; g++ and clang are used where they are.
 #
 #     tests/host.sh                             all of it
 #     tests/host.sh --without-library FOLDER    makes the cases in FOLDER and runs what needs no library; needs no rt
@@ -37,8 +38,44 @@ builds() {
     gcc $warnings "$@" $(names $kind) -Iinclude tests/host.c bench/$kind.c -o "$work/$kind"
 }
 
-# The cases, the two C implementations, and wrong programs.
+# The header by itself: as C and as C++, with all warnings, and a warning for each call whose number is ignored.
+the_header() {
+    echo '#include "headend.h"' > "$work/header.c"
+    cp "$work/header.c" "$work/header.cc"
+    local strict="-Wall -Wextra -Wconversion -Wsign-conversion -pedantic -Werror -Iinclude -fsyntax-only"
+    for compiler in "gcc -std=c99" "gcc -std=c11" "clang -std=c11" "g++ -std=c++11" "g++ -std=c++17" "clang++ -std=c++17"; do
+        local source=header.c
+        case $compiler in *++*) source=header.cc ;; esac
+        if command -v ${compiler%% *} > /dev/null; then
+            $compiler $strict "$work/$source" || fail "the header does not pass $compiler"
+            echo "the header passes $compiler"
+        else
+            echo "the header was not tried with $compiler, which is not here"
+        fi
+    done
+    cat > "$work/ignored.c" << 'END'
+#include "headend.h"
+void ignored(uint8_t *b);
+void ignored(uint8_t *b)
+{
+    headend_judge(b, 0, b, 0);
+    headend_role(b, 0, 0, 0, b, 0);
+    headend_data_count(b, 0, 0, b, 0);
+    headend_fresh_emitter(b, 0, 0, b, 0, b, 0);
+    headend_fresh_receiver(b, 0, 0, b, 0, b, 0);
+    headend_emit(b, 0, 0, 0, b, 0, b, 0, b, 0, b, 0);
+    headend_flush(b, 0, 0, 0, b, 0, b, 0, b, 0);
+    headend_receive(b, 0, 0, 0, 0, b, 0, b, 0, b, 0, b, 0);
+}
+END
+    local warned
+    warned=$(LC_ALL=C gcc -Iinclude -c "$work/ignored.c" -o "$work/ignored.o" 2>&1 | grep -c 'ignoring return value' || true)
+    [ "$warned" -eq 8 ] || fail "$warned of 8 ignored numbers are warned of"
+}
+
+# The cases, the two C implementations, wrong programs and wrong headers.
 without_library() {
+    the_header
     python3 tests/host.py "$work/all"
     python3 tests/host.py --small "$work/small"
     python3 tests/bent.py "$work"
@@ -55,9 +92,22 @@ without_library() {
         gcc -w -Ibench "$program" "$work/host.o" -o "$work/wrong"
         must_differ "$work/wrong" "$work/small"
     done
+    echo "wrong headers"
+    gcc -w -c bench/plain.c -o "$work/plain.o"
+    for header in "$work"/header-*; do
+        gcc -w $(names plain) -I"$header" tests/host.c "$work/plain.o" -o "$work/wrong"
+        must_differ "$work/wrong" "$work/small"
+    done
 }
 
-# The library, the example, and wrong expectations.
+# What examples/trunks.c prints of a plan is what the second model says.
+trunks() {
+    "$work/trunks" "$1" > "$work/said" || fail "examples/trunks.c ended with $? on $1"
+    python3 tests/loss.py --trunks "$1" | diff - "$work/said" || fail "examples/trunks.c prints something else on $1"
+    tail -n 1 "$work/said"
+}
+
+# The library, the examples, and wrong expectations.
 with_library() {
     rt staticlib headend
     # The library has no data of its own that could be written, and calls nothing but the copying of memory.
@@ -72,10 +122,15 @@ with_library() {
     gcc $warnings -g -O1 -Iinclude tests/host.c "$library" -o "$work/host"
     valgrind -q --error-exitcode=9 "$work/host" "$work/small"
     "$work/host" --stack "$work/small"
-    echo "the example"
-    gcc $warnings -O2 -Iinclude examples/link.c "$library" -o "$work/link"
+    echo "the examples"
+    for example in link trunks; do
+        gcc $warnings -O2 -Iinclude examples/$example.c "$library" -o "$work/$example"
+        if "$work/$example" plans/refused-14.plan 2> /dev/null; then fail "examples/$example.c took a refused plan"; fi
+    done
     "$work/link" plans/plan-a.plan
-    if "$work/link" plans/refused-14.plan 2> /dev/null; then fail "the example took a refused plan"; fi
+    for plan in plan-a largest no-scattered-64-to-75; do
+        trunks plans/$plan.plan
+    done
     echo "wrong expectations"
     "$work/host" "$work/straight.cases"
     for cases in "$work"/bent-*.cases; do

@@ -17,6 +17,8 @@ from plans import entries, outside, pilots_of_full, singles
 ROOT = Path(__file__).resolve().parent.parent
 A = outside(800, 1240)
 FULL = outside(148, 3948)
+# What phases 64 to 99 scatter of 852 to 1207, but for three predefined pilots: further pilots.
+FREE = [k + 128 * i for k in range(916, 952) for i in range(3) if k + 128 * i not in (925, 937, 948)]
 
 
 def text(ranges, pilots, ranges_text=None, pilots_text=None):
@@ -90,6 +92,8 @@ def all_plans():
               + singles(1310, 1320, 1330), want='ok 482 4'),
         ('limit-09-to-12', plans.AT_LIMITS, 'ok 460 5',
          ('972', '4', '0-799, 1395-4095, 1240-1354, 810-811, 1360-1361', 'none')),
+        built('no-scattered-64-to-75', 972, 4, A, FREE, want='ok 320 4',
+              pilots_text='105: k, k+128 and k+256, k from 916 to 951, but for 925, 937 and 948'),
     ]
     return made
 
@@ -104,7 +108,9 @@ unless the table says otherwise. The last column is what `plancheck` prints:
 ground and the place. `limit-09` to `limit-12` stand right at the limits that
 `refused-09` to `refused-12` just miss: a second band of 40 subcarriers, a widest
 band of 440, a fifth of the span excluded, a twentieth of a band excluded;
-`limit-09-to-12` stands at all four.
+`limit-09-to-12` stands at all four. Under `no-scattered-64-to-75` no subcarrier
+is scattered at phases 64 to 75, so a receiver does not notice at once that a
+symbol of phase 64 to 74 was lost: docs/C-HOST.md, "A lost symbol".
 
 Widths are counted since request 02, so two neighbours of Plan A read otherwise
 than in 01: active 800 to 1239 is accepted with N_I 424 (there: 10), and excluding
