@@ -1,0 +1,211 @@
+#!/usr/bin/env python3
+"""Holds docs/REFUSALS.md and docs/PLAN-FILE.md to the second model and to plans/.
+
+    python3 tests/pages.py
+
+Each ground has its entry with its parts and its limits; each plan that is cited
+gives the line beside it; Plan A stands in PLAN-FILE.md byte for byte, decoded as
+the model decodes it; each word has its entry.  Then every cited line, every byte
+of Plan A and every entry is changed in turn, and the change must be noticed.
+"""
+
+import re
+import sys
+from pathlib import Path
+
+sys.dont_write_bytecode = True
+
+import model
+
+ROOT = Path(__file__).resolve().parent.parent
+X = model.Limits()
+FIELDS = ('kind', 'zero', 'next index', 'first number', 'second number')
+WORDS = ('Subcarrier', 'Excluded', 'active', 'Exclusion band', 'Band', 'Width', 'span', 'Window', 'PLC',
+         'Continuous pilot', 'Scattered pilot', 'Role', 'Phase', 'Cell', 'Mark', 'Symbol', 'Input symbol',
+         'N_I', 'N_D', 'Rank', 'Filler', 'flush', 'M, depth', 'Store', 'Row', 'Heard', 'Warming', 'Fresh',
+         'Ground', 'Place')
+# The numbers of a ground that its entry has to name.
+NUMBERS = {
+    1: (X.shortest, X.longest, X.record_bytes),
+    4: (X.lowest_l, X.highest_l, X.lowest_m, X.highest_m, X.last_subcarrier),
+    5: (X.pilot_records, X.pilot_records + 1),
+    6: (X.lowest_active, X.highest_active, X.lowest_active - 1, X.highest_active + 1,
+        X.last_subcarrier),
+    7: (X.clear_below, X.clear_above),
+    8: (X.distance_1, X.distance_2, X.distance_3, X.distance_4, X.plc_width - 1),
+    9: (X.narrow,),
+    10: (X.wide, X.exclusion_band),
+    12: (X.exclusion_band,),
+    13: (X.long_window, X.long_excluded, X.long_window - 1),
+    14: (X.short_window, X.short_excluded, X.short_window - 1),
+    15: (X.most_ranks,),
+    16: (model.PHASES - 1, X.last_subcarrier),
+    17: (X.last_subcarrier + 1, 2 * (X.last_subcarrier + 1)),
+    19: (16383,),
+    20: (16383,),
+    21: (20,),
+}
+
+
+def plan(name):
+    return (ROOT / 'plans' / name).read_bytes()
+
+
+def numbers_of(text):
+    """The numbers in a text, 4,096 as 4096."""
+    return {int(n) for n in re.findall(r'\d+', re.sub(r'(\d),(\d{3})', r'\1\2', text))}
+
+
+def cited(text):
+    """(file, line) for each plan that a text names; the line is the next one in
+    backquotes."""
+    parts = re.split(r'`plans/([^`]+\.plan)`', text)
+    found = []
+    for name, after in zip(parts[1::2], parts[2::2]):
+        line = re.search(r'`((?:ok|refused) [^`]*)`', after)
+        found.append((name, line.group(1) if line else 'no line'))
+    return found
+
+
+def wrong_lines(text):
+    return ['%s does not print %s' % (name, line) for name, line in cited(text)
+            if not (ROOT / 'plans' / name).is_file() or model.line(plan(name)) != line]
+
+
+def calls():
+    """The calls that the library exports."""
+    source = (ROOT / 'crates/headend/src/lib.rt').read_text(encoding='utf-8')
+    return set(re.findall(r'extern "C" fn (headend_[a-z_]+)\(', source))
+
+
+def wrong_calls(number, text):
+    """What is wrong with the calls of a ground from 16 on."""
+    named = set(re.findall(r'`(headend_[a-z_]+)`', text.split('- Calls:')[-1].split(';')[0]))
+    steps = {'headend_emit', 'headend_flush', 'headend_receive'}
+    starts = {'headend_fresh_emitter', 'headend_fresh_receiver'}
+    wanted = {16: calls() - {'headend_judge'}, 17: starts | steps, 18: {'headend_emit'},
+              19: {'headend_emit'}, 20: {'headend_receive'}, 21: calls()}[number]
+    if named == wanted and wanted <= calls():
+        return []
+    return ['ground %d: other calls: %s' % (number, ' '.join(sorted(named ^ wanted)))]
+
+
+def wrong_entry(number, text):
+    """What is wrong with the entry of a ground."""
+    parts = ('- Say:', '- Look at:', '- Place:', '- Example:' if number <= 15 else '- Calls:')
+    wrong = ['ground %d: %s is missing' % (number, part) for part in parts if text.count(part) != 1]
+    wrong += ['ground %d: %d is not named' % (number, n) for n in NUMBERS.get(number, ())
+              if n not in numbers_of(text)]
+    if number > 15:
+        wrong += ['ground %d: no plan gives it' % number for _ in cited(text)]
+        return wrong + wrong_calls(number, text)
+    if not any(line.startswith('refused %d ' % number) for _, line in cited(text)):
+        wrong.append('ground %d: no plan that gives it' % number)
+    return wrong
+
+
+def wrong_refusals(text):
+    """What is wrong with docs/REFUSALS.md."""
+    parts = re.split(r'^## (\d+): .*$', text, flags=re.M)
+    found = [int(n) for n in parts[1::2]]
+    wrong = [] if found == list(range(1, 22)) else ['the entries are %s' % found]
+    for number, entry in zip(found, parts[2::2]):
+        wrong += wrong_entry(number, entry) if 1 <= number <= 21 else ['ground %d does not exist' % number]
+    return wrong + wrong_lines(text)
+
+
+def wrong_bytes(text):
+    """What is wrong with the table of Plan A's bytes."""
+    rows = re.findall(r'^\| (\d+)(?: to (\d+))? \| ((?:[0-9A-F]{2} ?)+) \| (\d+) '
+                      r'\| record (\d+), ([a-z ]+?)(?:: .*)? \|$', text, flags=re.M)
+    data = plan('plan-a.plan')
+    at = 0
+    for row, (a, b, digits, number, record, field) in enumerate(rows):
+        first, last = int(a), int(b or a)
+        read = model.Model().read(data, row // 5)
+        if (first != at or data[first:last + 1] != bytes.fromhex(digits) or int(record) != row // 5
+                or field != FIELDS[row % 5] or int(number) != read[row % 5]):
+            return ['the bytes from %d on are not those of Plan A' % first]
+        at = last + 1
+    return [] if at == len(data) else ['Plan A is described up to byte %d' % at]
+
+
+def wrong_hand(text):
+    """What is wrong with Plan A made and shown by hand."""
+    data = plan('plan-a.plan')
+    wrong = []
+    typed = re.search(r'^    echo ((?:[0-9A-F]{2} )+)\| xxd -r -p > my\.plan$', text, flags=re.M)
+    if not typed or bytes.fromhex(typed.group(1)) != data:
+        wrong.append('what is typed is not Plan A')
+    shown = ''
+    for i in range(0, len(data), 8):
+        record = data[i:i + 8]
+        characters = ''.join(chr(c) if 32 <= c < 127 else '.' for c in record)
+        shown += '    %08x: %s  %s\n' % (i, record.hex(' '), characters)
+    if shown not in text:
+        wrong.append('what xxd shows is not Plan A')
+    more = re.search(r'\(`([0-9A-F ]+)` in the\s+place of its `([0-9A-F ]+)`\), and record 3 is\s+`([0-9A-F ]+)`', text)
+    next_index, was, record = [bytes.fromhex(digits) for digits in more.groups()] if more else (b'', b'', b'')
+    longer = data[:18] + next_index + data[20:] + record
+    if data[18:20] != was or longer != plan('plan-a-excluded-850-853.plan'):
+        wrong.append('the longer plan is another')
+    return wrong
+
+
+def wrong_plan_file(text):
+    """What is wrong with docs/PLAN-FILE.md."""
+    pilots = re.search(r'predefined pilots stand at\s+([\d,\s]+) and\s+(\d+)\.', text)
+    wrong = ['%s has no entry' % word for word in WORDS if '**%s**' % word not in text]
+    if not pilots or [int(n) for n in re.findall(r'\d+', ' '.join(pilots.groups()))] != model.predefined(972):
+        wrong.append('the predefined pilots are others')
+    return wrong + wrong_bytes(text) + wrong_hand(text) + wrong_lines(text)
+
+
+def bent_lines(text):
+    """The text with the last number of one cited line changed, for each."""
+    for found in re.finditer(r'`(?:ok|refused) \d+ (\d+)`', text):
+        if '`plans/' in text[:found.start()].rsplit('\n\n', 1)[-1]:
+            yield text[:found.start(1)] + str(int(found.group(1)) + 1) + text[found.end(1):]
+
+
+def bent_refusals(text):
+    yield from bent_lines(text)
+    entries = re.split(r'(?=^## )', text, flags=re.M)
+    for i in range(1, len(entries)):
+        shorter = re.sub(r'^- Look at:.*?(?=^- Place)', '', entries[i], flags=re.M | re.S)
+        yield ''.join(entries[:i] + entries[i + 1:])
+        yield ''.join(entries[:i] + [shorter] + entries[i + 1:])
+
+
+def bent_plan_file(text):
+    yield from bent_lines(text)
+    for found in re.finditer(r'\b[0-9A-Fa-f]{2}(?= [0-9A-Fa-f|]| \||  \.|`)', text):
+        before = text[text.rfind('\n', 0, found.start()) + 1:found.start()]
+        if re.match(r'\| \d|    echo|    0000|.*`(02 .*)?$', before):
+            digits = '%02X' % ((int(found.group(), 16) + 1) % 256)
+            if not found.group().isupper():
+                digits = digits.lower()
+            yield text[:found.start()] + digits + text[found.end():]
+    for word in WORDS:
+        yield text.replace('**%s**' % word, word)
+
+
+def main():
+    pages = ((wrong_refusals, bent_refusals, 'REFUSALS.md'),
+             (wrong_plan_file, bent_plan_file, 'PLAN-FILE.md'))
+    failed = False
+    for wrong, bent, name in pages:
+        text = (ROOT / 'docs' / name).read_text(encoding='utf-8')
+        found = wrong(text)
+        for sentence in found:
+            print('pages: %s: %s' % (name, sentence))
+        changed = list(bent(text))
+        missed = [other for other in changed if not wrong(other)]
+        print('pages: %s: %d plans cited, %d changes, %d not noticed'
+              % (name, len(cited(text)), len(changed), len(missed)))
+        failed = failed or bool(found or missed)
+    return 1 if failed else 0
+
+
+if __name__ == '__main__':
+    sys.exit(main())
