@@ -1,7 +1,7 @@
 -- A receiver's run over bytes: its accepted steps are, through the cells of the bytes, those of the cell steps that 21 does not refuse. Assumes nothing.
 use Prim.Native.Nat.{ℕ}
 use mathlib.Core.Path.{_≡_, refl, sym, ap, _∙_}
-use mathlib.Core.Bool.{Bool, true, false, _||_, false≢true}
+use mathlib.Core.Bool.{Bool, true, false, _||_}
 use mathlib.Core.List.{List, map}
 use Rattle.counting.proofs.Bools.{by-test}
 use Rattle.rules.specs.declared.Device.{Device}
@@ -13,8 +13,9 @@ use Rattle.bytecells.specs.ByteSteps.{listenedBytes, heardBytes, listenBytes, r
 use Rattle.bytecells.proofs.OctetLaws.{cells-bytes}
 use Rattle.runs.specs.Run.{cellEntries, isReceived, receiverLeft, toldBy, receivings, heard, told, receiverAfter, isListening, FreshReceiver}
 use Rattle.byteruns.specs.ByteEntries.{hearBytes, byteEntries}
-use Rattle.byteruns.proofs.Kept.{map-twice, after-keeps, kept, kept-accepted, kept-after}
-use Rattle.byteruns.proofs.Sends.{even-bytes}
+use Rattle.byteruns.proofs.Kept.{map-twice, after-keeps, Reading, kept, kept-accepted, kept-after}
+use Rattle.byteruns.proofs.Starts as start
+use Rattle.byteruns.proofs.Starts.{even-bytes, Form}
 
 -- what is read of a receiver, of what a step is given, and of what it leaves
 unfoldable pub readReceiver : Receiver → Receiver
@@ -49,16 +50,33 @@ module _ (d : Device) (s : List ℕ) where
   same : (v : Receiver) (a : Arrival) → oddArrival v a ≡ false → readReceiving (hearBytes d s v a) ≡ hearStep d s (readReceiver v) (readArrival a)
   same v a h = ap readReceiving (hear-even v a h) ∙ read-heard (hearStep d s (readReceiver v) (readArrival a))
 
+  reading : Reading Receiver Arrival Receiving Receiver Arrival Receiving
+  unfolding readReceiving readReceiver
+  reading = record {
+    step = hearBytes d s;
+    ok = λ r. isReceived (r .answer);
+    left = receiverLeft;
+    step′ = hearStep d s;
+    ok′ = λ r. isReceived (r .answer);
+    left′ = receiverLeft;
+    skip = oddArrival;
+    state = readReceiver;
+    asked = readArrival;
+    result = readReceiving;
+    ok-same = λ r. refl;
+    left-same = λ r. refl;
+    away = away;
+    same = same;
+  }
+
   module _ (v : Receiver) (steps : List Arrival) where
     -- the cell steps: those that 21 does not refuse
     pub cellArrivals : List Arrival
-    cellArrivals = kept (hearBytes d s) (λ r. isReceived (r .answer)) receiverLeft (hearStep d s) (λ r. isReceived (r .answer)) receiverLeft oddArrival readReceiver readArrival readReceiving v steps
+    cellArrivals = kept reading v steps
 
     receivings-same : map (λ x. (readArrival (x .0), readReceiving (x .1))) (receivings (byteEntries d s) v steps) ≡ receivings (cellEntries d s) (readReceiver v) cellArrivals
-    unfolding cellArrivals readReceiving readReceiver
-    receivings-same =
-        kept-accepted (hearBytes d s) (λ r. isReceived (r .answer)) receiverLeft (hearStep d s) (λ r. isReceived (r .answer)) receiverLeft oddArrival readReceiver readArrival readReceiving
-        (λ r. refl) (λ r. refl) away same v steps
+    unfolding cellArrivals reading
+    receivings-same = kept-accepted reading v steps
 
     pub heard-same : heard (byteEntries d s) v steps ≡ heard (cellEntries d s) (readReceiver v) cellArrivals
     unfolding heard readArrival
@@ -73,10 +91,8 @@ module _ (d : Device) (s : List ℕ) where
         ∙ ap (map (λ x. toldBy (x .1 .answer) (x .1 .buffer))) receivings-same
 
     pub after-same : readReceiver (receiverAfter (byteEntries d s) v steps) ≡ receiverAfter (cellEntries d s) (readReceiver v) cellArrivals
-    unfolding cellArrivals readReceiving readReceiver
-    after-same =
-        kept-after (hearBytes d s) (λ r. isReceived (r .answer)) receiverLeft (hearStep d s) (λ r. isReceived (r .answer)) receiverLeft oddArrival readReceiver readArrival readReceiving
-        (λ r. refl) (λ r. refl) away same v steps
+    unfolding cellArrivals reading
+    after-same = kept-after reading v steps
 
   -- the store keeps whole cells
   keeps-even : (v : Receiver) (a : Arrival) → odd (v .store) ≡ false → odd (receiverLeft (hearBytes d s v a) .store) ≡ false
@@ -94,37 +110,34 @@ module _ (d : Device) (s : List ℕ) where
   unfolding oddArrival
   hears-whole v a hs hy hb t = ap (λ (r : Receiving). isReceived (r .answer)) (hear-even v a (λ i. hs i || hy i || hb i)) ∙ t
 
-  -- ---- a fresh start
+-- ---- a fresh start
 
-  listen-even : (j : ℕ) (lent : List ℕ) → odd lent ≡ false → listenBytes d s j lent ≡ listenedBytes (listenStep d s j (cellsOf lent))
-  unfolding listenBytes
-  listen-even j lent h = rw h refl
+form : Form Listening
+form = record {
+  ok = λ r. isListening (r .answer);
+  store = λ r. r .store;
+  read = λ r. listens (r .answer) (cellsOf (r .store));
+  write = listenedBytes;
+  away = listens (a-listen.Refused 21 0);
+  read-write = λ r i. listens (r .answer) (cells-bytes (r .store) i);
+  ok-write = λ r. refl;
+  store-write = λ r. refl;
+  never = λ lent. refl;
+}
 
-  listen-odd : (j : ℕ) (lent : List ℕ) → odd lent ≡ true → listenBytes d s j lent ≡ listens (a-listen.Refused 21 0) lent
-  unfolding listenBytes
-  listen-odd j lent h = rw h refl
+module _ (d : Device) (s : List ℕ) (j : ℕ) where
+  pub listens-whole : (lent : List ℕ) → odd lent ≡ false → isListening (listenStep d s j (cellsOf lent) .answer) ≡ true → isListening (listenBytes d s j lent .answer) ≡ true
+  unfolding form listenBytes
+  listens-whole = start.starts-whole form (listenStep d s j)
 
-  pub listens-whole : (j : ℕ) (lent : List ℕ) → odd lent ≡ false → isListening (listenStep d s j (cellsOf lent) .answer) ≡ true → isListening (listenBytes d s j lent .answer) ≡ true
-  listens-whole j lent h t = ap (λ (r : Listening). isListening (r .answer)) (listen-even j lent h) ∙ t
-
-  module _ (j : ℕ) (v : Receiver) (f : FreshReceiver (byteEntries d s) j v) where
-    lent-even : odd (f .lent) ≡ false
-    lent-even =
-        by-test (odd (f .lent))
-        (λ q. absurd (false≢true (ap (λ (r : Listening). isListening (r .answer)) (sym (listen-odd j (f .lent) q) ∙ f .start))))
-        (λ q. q)
-
-    started : listenedBytes (listenStep d s j (cellsOf (f .lent))) ≡ listens (a-listen.Started (v .state)) (v .store)
-    started = sym (listen-even j (f .lent) lent-even) ∙ f .start
-
+  module _ (v : Receiver) (f : FreshReceiver (byteEntries d s) j v) where
     pub fresh-cells : FreshReceiver (cellEntries d s) j (readReceiver v)
-    unfolding readReceiver
+    unfolding form readReceiver listenBytes
     fresh-cells = record {
       lent = cellsOf (f .lent);
-      start =
-          let r : Listening = listenStep d s j (cellsOf (f .lent)) in
-          sym (λ i. listens (r .answer) (cells-bytes (r .store) i)) ∙ ap (λ (x : Listening). listens (x .answer) (cellsOf (x .store))) started;
+      start = start.started-cells form (listenStep d s j) (f .lent) (listens (a-listen.Started (v .state)) (v .store)) (f .start) refl;
     }
 
     pub fresh-even : odd (v .store) ≡ false
-    fresh-even = ap (λ (x : Listening). odd (x .store)) (sym started) ∙ even-bytes _
+    unfolding form listenBytes
+    fresh-even = start.started-even form (listenStep d s j) (f .lent) (listens (a-listen.Started (v .state)) (v .store)) (f .start) refl

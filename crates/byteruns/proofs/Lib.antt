@@ -1,4 +1,5 @@
 pub mod Kept
+pub mod Starts
 pub mod Sends
 pub mod Hears
 pub mod Claims

@@ -1,11 +1,8 @@
 -- An emitter's run over bytes: its accepted steps are, through the cells of the bytes, those of the cell steps that 21 does not refuse. Assumes nothing.
-use Prim.Native.Nat.{ℕ, _%_}
+use Prim.Native.Nat.{ℕ}
 use mathlib.Core.Path.{_≡_, refl, sym, ap, _∙_, subst}
 use mathlib.Core.Bool.{Bool, true, false, _||_, false≢true}
 use mathlib.Core.List.{List, map}
-use native.Mathlib.Omega.{arith}
-use lib.ListN.{length}
-use borrow.Author.Tests.{ne-eqb}
 use Rattle.counting.proofs.Bools.{by-test}
 use Rattle.rules.specs.declared.Device.{Device}
 use Rattle.rules.specs.declared.StartAnswer.the-variants as a-start
@@ -14,14 +11,12 @@ use Rattle.rules.specs.Frame.{Given, flush, symbol}
 use Rattle.rules.specs.Steps.{Emitter, Send, Sending, leaves, Starting, starts, startStep, sendStep, emitStep, flushStep}
 use Rattle.bytecells.specs.Octets.{cellsOf, bytesOf, odd}
 use Rattle.bytecells.specs.ByteSteps.{startedBytes, sentBytes, startBytes, emitBytes, flushBytes}
-use Rattle.bytecells.proofs.OctetLaws.{length-bytes, cells-bytes, octets-whole, even-length}
+use Rattle.bytecells.proofs.OctetLaws.{cells-bytes, octets-whole, even-length}
 use Rattle.runs.specs.Run.{cellEntries, readGiven, isSent, emitterLeft, sendings, input, sent, emitterAfter, isStarted, Fresh}
 use Rattle.byteruns.specs.ByteEntries.{sendGiven, sendBytes, byteEntries, SameBytes}
-use Rattle.byteruns.proofs.Kept.{map-twice, accepted-same, after-keeps, kept, kept-accepted, kept-after}
-
-pub even-bytes : (c : List ℕ) → odd (bytesOf c) ≡ false
-unfolding odd
-even-bytes c = ne-eqb (length (bytesOf c) % 2) 1 (λ e. omega (arith, length-bytes c))
+use Rattle.byteruns.proofs.Starts as start
+use Rattle.byteruns.proofs.Starts.{even-bytes, Form}
+use Rattle.byteruns.proofs.Kept.{map-twice, accepted-same, after-keeps, Reading, kept, kept-accepted, kept-after}
 
 pub same-bytes : SameBytes
 same-bytes b b′ o o′ h h′ e = sym (octets-whole b o (even-length b h)) ∙ ap bytesOf e ∙ octets-whole b′ o′ (even-length b′ h′)
@@ -70,16 +65,33 @@ module _ (d : Device) (s : List ℕ) where
   unfolding oddSend readSend
   same e a h = ap readSending (send-even e (a .room) (a .given) h) ∙ read-sent (sendStep d s (readEmitter e) (readSend a))
 
+  reading : Reading Emitter Send Sending Emitter Send Sending
+  unfolding readSending readEmitter
+  reading = record {
+    step = sendBytes d s;
+    ok = λ r. isSent (r .answer);
+    left = emitterLeft;
+    step′ = sendStep d s;
+    ok′ = λ r. isSent (r .answer);
+    left′ = emitterLeft;
+    skip = oddSend;
+    state = readEmitter;
+    asked = readSend;
+    result = readSending;
+    ok-same = λ r. refl;
+    left-same = λ r. refl;
+    away = away;
+    same = same;
+  }
+
   module _ (e : Emitter) (steps : List Send) where
     -- the cell steps: those that 21 does not refuse
     pub cellSends : List Send
-    cellSends = kept (sendBytes d s) (λ r. isSent (r .answer)) emitterLeft (sendStep d s) (λ r. isSent (r .answer)) emitterLeft oddSend readEmitter readSend readSending e steps
+    cellSends = kept reading e steps
 
     sendings-same : map (λ x. (readSend (x .0), readSending (x .1))) (sendings (byteEntries d s) e steps) ≡ sendings (cellEntries d s) (readEmitter e) cellSends
-    unfolding cellSends readSending readEmitter
-    sendings-same =
-        kept-accepted (sendBytes d s) (λ r. isSent (r .answer)) emitterLeft (sendStep d s) (λ r. isSent (r .answer)) emitterLeft oddSend readEmitter readSend readSending
-        (λ r. refl) (λ r. refl) away same e steps
+    unfolding cellSends reading
+    sendings-same = kept-accepted reading e steps
 
     pub input-same : input (byteEntries d s) e steps ≡ input (cellEntries d s) (readEmitter e) cellSends
     unfolding input readSend
@@ -99,10 +111,8 @@ module _ (d : Device) (s : List ℕ) where
         ∙ ap (map (λ x. x .1 .symbol)) sendings-same
 
     pub after-same : readEmitter (emitterAfter (byteEntries d s) e steps) ≡ emitterAfter (cellEntries d s) (readEmitter e) cellSends
-    unfolding cellSends readSending readEmitter
-    after-same =
-        kept-after (sendBytes d s) (λ r. isSent (r .answer)) emitterLeft (sendStep d s) (λ r. isSent (r .answer)) emitterLeft oddSend readEmitter readSend readSending
-        (λ r. refl) (λ r. refl) away same e steps
+    unfolding cellSends reading
+    after-same = kept-after reading e steps
 
   -- the store keeps whole cells
   keeps-even : (e : Emitter) (a : Send) → odd (e .store) ≡ false → odd (emitterLeft (sendBytes d s e a) .store) ≡ false
@@ -137,37 +147,34 @@ module _ (d : Device) (s : List ℕ) where
       map-twice (λ x. cellsOf (x .1 .symbol)) bytesOf (sendings (byteEntries d s) e steps)
       ∙ accepted-same (sendBytes d s) (λ r. isSent (r .answer)) emitterLeft (λ r. bytesOf (cellsOf (r .symbol))) (λ r. r .symbol) sent-bytes e steps
 
-  -- ---- a fresh start
+-- ---- a fresh start
 
-  start-even : (j : ℕ) (lent : List ℕ) → odd lent ≡ false → startBytes d s j lent ≡ startedBytes (startStep d s j (cellsOf lent))
-  unfolding startBytes
-  start-even j lent h = rw h refl
+form : Form Starting
+form = record {
+  ok = λ r. isStarted (r .answer);
+  store = λ r. r .store;
+  read = λ r. starts (r .answer) (cellsOf (r .store));
+  write = startedBytes;
+  away = starts (a-start.Refused 21 0);
+  read-write = λ r i. starts (r .answer) (cells-bytes (r .store) i);
+  ok-write = λ r. refl;
+  store-write = λ r. refl;
+  never = λ lent. refl;
+}
 
-  start-odd : (j : ℕ) (lent : List ℕ) → odd lent ≡ true → startBytes d s j lent ≡ starts (a-start.Refused 21 0) lent
-  unfolding startBytes
-  start-odd j lent h = rw h refl
+module _ (d : Device) (s : List ℕ) (j : ℕ) where
+  pub starts-whole : (lent : List ℕ) → odd lent ≡ false → isStarted (startStep d s j (cellsOf lent) .answer) ≡ true → isStarted (startBytes d s j lent .answer) ≡ true
+  unfolding form startBytes
+  starts-whole = start.starts-whole form (startStep d s j)
 
-  pub starts-whole : (j : ℕ) (lent : List ℕ) → odd lent ≡ false → isStarted (startStep d s j (cellsOf lent) .answer) ≡ true → isStarted (startBytes d s j lent .answer) ≡ true
-  starts-whole j lent h t = ap (λ (r : Starting). isStarted (r .answer)) (start-even j lent h) ∙ t
-
-  module _ (j : ℕ) (e : Emitter) (f : Fresh (byteEntries d s) j e) where
-    lent-even : odd (f .lent) ≡ false
-    lent-even =
-        by-test (odd (f .lent))
-        (λ q. absurd (false≢true (ap (λ (r : Starting). isStarted (r .answer)) (sym (start-odd j (f .lent) q) ∙ f .start))))
-        (λ q. q)
-
-    started : startedBytes (startStep d s j (cellsOf (f .lent))) ≡ starts (a-start.Started (e .state)) (e .store)
-    started = sym (start-even j (f .lent) lent-even) ∙ f .start
-
+  module _ (e : Emitter) (f : Fresh (byteEntries d s) j e) where
     pub fresh-cells : Fresh (cellEntries d s) j (readEmitter e)
-    unfolding readEmitter
+    unfolding form readEmitter startBytes
     fresh-cells = record {
       lent = cellsOf (f .lent);
-      start =
-          let r : Starting = startStep d s j (cellsOf (f .lent)) in
-          sym (λ i. starts (r .answer) (cells-bytes (r .store) i)) ∙ ap (λ (x : Starting). starts (x .answer) (cellsOf (x .store))) started;
+      start = start.started-cells form (startStep d s j) (f .lent) (starts (a-start.Started (e .state)) (e .store)) (f .start) refl;
     }
 
     pub fresh-even : odd (e .store) ≡ false
-    fresh-even = ap (λ (x : Starting). odd (x .store)) (sym started) ∙ even-bytes _
+    unfolding form startBytes
+    fresh-even = start.started-even form (startStep d s j) (f .lent) (starts (a-start.Started (e .state)) (e .store)) (f .start) refl

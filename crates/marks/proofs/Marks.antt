@@ -12,7 +12,7 @@ use Rattle.rules.specs.declared.Device.{Device}
 use Rattle.rules.specs.declared.Finding.the-variants.{Fine}
 use Rattle.rules.specs.Plan.{Plan}
 use Rattle.rules.specs.Bands.{excluded, active}
-use Rattle.rules.specs.Roles.{inPlc, continuous, ranked, mark, firstMark}
+use Rattle.rules.specs.Roles.{inPlc, continuous, ranked, firstMark}
 use Rattle.rules.specs.Grounds.{_else_, ground?, outside, aroundPlc, pilotClash}
 use Rattle.roles.proofs.Testing.{mark-is}
 use Rattle.marks.specs.Marked.{Marked, grounds6to8}

@@ -1,12 +1,12 @@
 -- No fresh start and no step that is given what it asks for is refused. Assumes nothing.
-use Prim.Native.Nat.{ℕ, suc, _+_, _*_, _%_, _≤_, _<_}
-use mathlib.Core.Path.{_≡_, refl, sym, ap, _∙_}
+use Prim.Native.Nat.{ℕ, suc, _+_, _*_, _≤_, _<_}
+use mathlib.Core.Path.{_≡_, refl, sym, ap, subst}
 use mathlib.Core.Bool.{true, not, _||_}
-use mathlib.Core.List.{List, [], _∷_}
-use native.Mathlib.Nat.{mod-lt, mod-eq-of-lt, mod-add-mod, add-zero, zero-add, zero-mod}
+use mathlib.Core.List.{List}
+use native.Mathlib.Nat.{mod-lt, zero-add}
 use native.Mathlib.Omega.{arith}
 use lib.Dec.{ltb}
-use lib.ListN.{length, getD}
+use lib.ListN.{length, getD, length-map}
 use lib.Seq.{length-sets}
 use borrow.Author.Tests.{le-ltb, lt-leb, eq-eqb}
 use Rattle.counting.specs.Search.{when}
@@ -16,16 +16,16 @@ use Rattle.rules.specs.declared.Finding.the-variants.{Fine, Ground}
 use Rattle.rules.specs.declared.StartAnswer.the-variants as a-start
 use Rattle.rules.specs.declared.ListenAnswer.the-variants as a-listen
 use Rattle.rules.specs.Grounds.{_else_, ground?}
-use Rattle.rules.specs.Frame.{Frame, cells, dataCount, Given, flush, symbol, topData}
+use Rattle.rules.specs.Frame.{Frame, cells, dataCount, flush, symbol, inputCells, topData}
 use Rattle.rules.specs.Store.{freshStore, fillerStore}
 use Rattle.rules.specs.Steps.{Emitter, Send, Starting, starts, ground16, shortStore, stateGround16, ground17, givenGrounds, sendGrounds, nextState, sentStore, startGrounds, frameStart, frameStep}
 use Rattle.rules.specs.Receive.{Listening, listens, frameListen}
-use Rattle.delay.proofs.Ring.{length-put, row-next}
 use Rattle.frame.specs.Counted.{phaseOf}
 use Rattle.frame.proofs.Cells.{Sound}
-use Rattle.runs.specs.Run.{acceptedSteps, afterSteps, isSent, sent, emitterAfter, isStarted, isListening}
+use Rattle.runs.specs.Run.{isSent, emitterLeft, sent, emitterAfter, isStarted, isListening}
 use Rattle.runs.specs.Claims.{InputAt}
-use Rattle.runs.proofs.Steps.{frameEntries, by-finding, next, sent-fine, sent-symbol, sent-ground, after-sent, after-ground, freshEmitter, FreshIn}
+use Rattle.runs.proofs.Steps.{frameEntries, next, sent-fine, left-sent, away, freshEmitter, FreshIn}
+use Rattle.runs.proofs.Numbered.{Numbered, numbered-fresh, numbered-next, after-numbered}
 
 -- ---- fresh starts
 
@@ -48,38 +48,18 @@ module _ (F : Frame) (j : ℕ) (lent : List ℕ) (hj : j < F .phases) (fits : F 
 
 -- ---- the state of a run
 
--- how an emitter goes with the number n of symbols sent since the starting phase j
-record Carries (F : Frame) (j n : ℕ) (e : Emitter) : Type 0 where
-  phase : e .state .phase ≡ phaseOf F j n
-  row : e .state .row ≡ n % F .depth
-  fits : F .depth * cells F ≤ length (e .store)
+-- an emitter n accepted steps after the starting phase j
+abbrev Carries : Frame → ℕ → ℕ → Emitter → Type 0
+Carries F j n e = Numbered F j n (e .state .phase) (e .state .row) (e .store)
 
-carries-next : (F : Frame) (j n : ℕ) (e : Emitter) (g : Given) → 0 < F .depth → Carries F j n e → Carries F j (suc n) (next F e g)
+carries-on : (F : Frame) (j : ℕ) → 0 < F .depth → (n : ℕ) (e : Emitter) (a : Send) → sendGrounds F e a ≡ Fine → Carries F j n e → Carries F j (suc n) (emitterLeft (frameStep F e a))
 unfolding next nextState sentStore
-carries-next F j n e g pos t = record {
-  phase = rw (t .phase) (mod-add-mod (j + n) (F .phases) 1 ∙ ap (λ (x : ℕ). x % F .phases) (let e : j + n + 1 ≡ j + suc n = omega arith in e));
-  row = rw (t .row) (row-next (F .depth) n);
-  fits = rw (length-put (F .depth) (cells F) pos) (t .fits);
-}
-
-carries-after : (F : Frame) (j n : ℕ) (e : Emitter) (steps : List Send) → 0 < F .depth → Carries F j n e
-    → Carries F j (n + length (sent (frameEntries F) e steps)) (emitterAfter (frameEntries F) e steps)
-carries-after F j n e [] pos t = unfold sent acceptedSteps afterSteps in (rw (add-zero n) t)
-carries-after F j n e (a ∷ rest) pos t =
-    by-finding (sendGrounds F e a)
-    (λ h.
-    let w : Emitter = next F e (a .given) in
-    let q : n + suc (length (sent (frameEntries F) w rest)) ≡ suc n + length (sent (frameEntries F) w rest) = omega arith in
-    rw (sent-symbol F e a rest h, after-sent F e a rest h, q) (carries-after F j (suc n) w rest pos (carries-next F j n e (a .given) pos t)))
-    (λ m place h. rw (sent-ground F e a rest m place h, after-ground F e a rest m place h) (carries-after F j n e rest pos t))
+carries-on F j pos n e a h t =
+    subst (Carries F j (suc n)) (sym (left-sent F e a h)) (numbered-next F j n (e .state .phase) (e .state .row) (e .store) (inputCells F (e .state .phase) (a .given)) pos t)
 
 carries-fresh : (F : Frame) (j : ℕ) (lent : List ℕ) → j < F .phases → F .depth * cells F ≤ length lent → Carries F j 0 (freshEmitter F j lent)
 unfolding freshEmitter freshStore
-carries-fresh F j lent hj fits = record {
-  phase = rw (add-zero, mod-eq-of-lt hj) refl;
-  row = sym (zero-mod (F .depth));
-  fits = rw length-sets fits;
-}
+carries-fresh F j lent hj fits = numbered-fresh F j _ hj (rw length-sets fits)
 
 -- ---- one more step
 
@@ -105,9 +85,12 @@ flush-fine F j = refl
 
 module _ (F : Frame) (ok : Sound F) (j : ℕ) (e : Emitter) (fresh : FreshIn F j e) (steps : List Send) where
   carries : Carries F j (length (sent (frameEntries F) e steps)) (emitterAfter (frameEntries F) e steps)
+  unfolding sent
   carries =
-      rw (fresh .is-fresh)
-      (rw zero-add at (carries-after F j 0 (freshEmitter F j (fresh .lent)) steps (ok .depth-pos) (carries-fresh F j (fresh .lent) (fresh .phase-in) (fresh .fits))))
+      rw (fresh .is-fresh, length-map)
+      (rw zero-add at
+      (after-numbered (frameStep F) (λ r. isSent (r .answer)) emitterLeft (sendGrounds F) (Carries F j) (λ e a. sent-fine F e a .1) (λ e a. away F e a) (carries-on F j (ok .depth-pos)) 0
+      (freshEmitter F j (fresh .lent)) steps (carries-fresh F j (fresh .lent) (fresh .phase-in) (fresh .fits))))
 
   pub sends : (a : Send) → length (a .room) ≡ F .width → givenGrounds F (phaseOf F j (length (sent (frameEntries F) e steps))) (a .given) ≡ Fine
       → isSent (frameStep F (emitterAfter (frameEntries F) e steps) a .answer) ≡ true
@@ -116,7 +99,7 @@ module _ (F : Frame) (ok : Sound F) (j : ℕ) (e : Emitter) (fresh : FreshIn F j
       let n : ℕ = length (sent (frameEntries F) e steps) in
       let t = carries in
       sent-fine F w a .1
-      (no-ground F w a (rw (t .phase) (mod-lt (j + n) (omega (arith, fresh .phase-in)))) (rw (t .row) (mod-lt n (ok .depth-pos))) (t .fits) hl (rw (t .phase) hg))
+      (no-ground F w a (rw (t .phase-is) (mod-lt (j + n) (omega (arith, fresh .phase-in)))) (rw (t .row-is) (mod-lt n (ok .depth-pos))) (t .fits) hl (rw (t .phase-is) hg))
 
   pub emits : (ds room : List ℕ) → InputAt F (frameEntries F) (phaseOf F j (length (sent (frameEntries F) e steps))) ds → length room ≡ F .width
       → isSent (frameStep F (emitterAfter (frameEntries F) e steps) (record { given = symbol ds; room = room }) .answer) ≡ true

@@ -23,7 +23,7 @@ use Rattle.rules.specs.Receive.{Receiver, Arrival, Receiving, Listening, listen
 use Rattle.records.proofs.RecordLaws.{both-fine}
 use Rattle.facts.proofs.Accepted.{when-fine}
 use Rattle.frame.proofs.Cells.{length-data}
-use Rattle.runs.specs.Run.{acceptedSteps, afterSteps, isReceived, Told, warming, handed, toldBy, receivings, heard, told, receiverAfter, isListening, FreshReceiver}
+use Rattle.runs.specs.Run.{acceptedSteps, isReceived, receiverLeft, Told, warming, handed, toldBy, receivings, heard, told, isListening, FreshReceiver}
 use Rattle.runs.proofs.Steps.{frameEntries, not-refused}
 
 -- what was stored from the start on is what stands there
@@ -76,6 +76,13 @@ module _ (F : Frame) (v : Receiver) (a : Arrival) where
       by-test (receive.warming F (v .state)) (λ q. rw q refl)
       (λ q. rw q (ap (handed (outCount F (v .state))) (take-sets (a .buffer) (receive.handed F v (a .symbol)) (outCount F (v .state)) (length-data F _ _) (buffer-fits h q))))
 
+  pub left-fine : receiveGrounds F v a ≡ Fine → receiverLeft (frameReceive F v a) ≡ nextHeard F v (a .symbol)
+  unfolding received nextHeard
+  left-fine h = ap receiverLeft (step-fine h) ∙ by-test (receive.warming F (v .state)) (λ q. rw q refl) (λ q. rw q refl)
+
+  pub away : (n place : ℕ) → receiveGrounds F v a ≡ Ground n place → (isReceived (frameReceive F v a .answer) ≡ false) × (receiverLeft (frameReceive F v a) ≡ v)
+  away n place h = (ap (λ (r : Receiving). isReceived (r .answer)) (step-ground n place h), ap receiverLeft (step-ground n place h))
+
   module _ (rest : List Arrival) where
     pub heard-fine : receiveGrounds F v a ≡ Fine → heard (frameEntries F) v (a ∷ rest) ≡ a .symbol ∷ heard (frameEntries F) (nextHeard F v (a .symbol)) rest
     unfolding heard acceptedSteps received nextHeard
@@ -93,14 +100,6 @@ module _ (F : Frame) (v : Receiver) (a : Arrival) where
     pub told-ground : (n place : ℕ) → receiveGrounds F v a ≡ Ground n place → told (frameEntries F) v (a ∷ rest) ≡ told (frameEntries F) v rest
     unfolding told acceptedSteps
     told-ground n place h = rw (step-ground n place h) refl
-
-    pub after-fine : receiveGrounds F v a ≡ Fine → receiverAfter (frameEntries F) v (a ∷ rest) ≡ receiverAfter (frameEntries F) (nextHeard F v (a .symbol)) rest
-    unfolding afterSteps received nextHeard
-    after-fine h = by-test (receive.warming F (v .state)) (λ q. rw (step-fine h, q) refl) (λ q. rw (step-fine h, q) refl)
-
-    pub after-ground : (n place : ℕ) → receiveGrounds F v a ≡ Ground n place → receiverAfter (frameEntries F) v (a ∷ rest) ≡ receiverAfter (frameEntries F) v rest
-    unfolding afterSteps
-    after-ground n place h = rw (step-ground n place h) refl
 
 -- each accepted step tells something
 pub length-told : (F : Frame) (v : Receiver) (steps : List Arrival) → length (told (frameEntries F) v steps) ≡ length (heard (frameEntries F) v steps)

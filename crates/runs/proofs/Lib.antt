@@ -1,5 +1,6 @@
 pub mod Steps
 pub mod Hears
+pub mod Numbered
 pub mod Emit
 pub mod Places
 pub mod Fitting

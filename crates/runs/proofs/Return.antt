@@ -3,7 +3,7 @@ use Prim.Native.Nat.{ℕ, suc, _+_, _-_, _*_, _%_, _≤_, _<_, min}
 use mathlib.Core.Path.{_≡_, refl, sym, ap, ap₂, _∙_}
 use mathlib.Core.Bool.{true, false, not, _||_}
 use mathlib.Core.List.{List, [], _∷_, map}
-use native.Mathlib.Nat.{mod-lt, mod-eq-of-lt, mod-add-mod, add-mod-right, add-zero, zero-add, zero-mod}
+use native.Mathlib.Nat.{mod-lt, mod-eq-of-lt, mod-add-mod, add-mod-right, add-zero, zero-add}
 use native.Mathlib.Omega.{arith}
 use lib.Dec.{ltb}
 use lib.ListN.{length, getD, length-map, length-take}
@@ -22,13 +22,14 @@ use Rattle.rules.specs.Steps.{Emitter, Send, shortStore}
 use Rattle.rules.specs.Receive as receive
 use Rattle.rules.specs.Receive.{Receiver, Arrival, outPhase, outCount, shortBuffer, receiverGround16, receiverGround17, wrongCell, ground20, receiveGrounds, heardState, heardStore, rowsBack, frameReceive}
 use Rattle.delay.specs.Ring.{ringSent}
-use Rattle.delay.proofs.Ring.{late, length-put, row-next}
+use Rattle.delay.proofs.Ring.{late}
 use Rattle.frame.specs.Counted.{phaseOf}
 use Rattle.frame.proofs.Cells.{Sound, data-back, length-line-cells, line-cell, length-line}
-use Rattle.runs.specs.Run.{acceptedSteps, afterSteps, input, sent, isReceived, Told, warming, handed, refused, heard, told, receiverAfter}
+use Rattle.runs.specs.Run.{acceptedSteps, input, sent, isReceived, receiverLeft, Told, warming, handed, refused, heard, told, receiverAfter}
 use Rattle.runs.specs.Demand3.{dataCells, sentNumber, Follows, Returned}
 use Rattle.runs.proofs.Steps.{frameEntries, by-finding, list-length, FreshIn}
-use Rattle.runs.proofs.Hears.{nextHeard, tells, fine-received, heard-fine, heard-ground, told-fine, told-ground, after-fine, after-ground, length-told, freshReceiver, ListensIn}
+use Rattle.runs.proofs.Hears.{nextHeard, tells, fine-received, left-fine, away, heard-fine, heard-ground, told-fine, told-ground, length-told, freshReceiver, ListensIn}
+use Rattle.runs.proofs.Numbered.{Numbered, numbered-fresh, numbered-next, after-numbered}
 use Rattle.runs.proofs.Emit.{closedCells, delay-below, length-sent, input-fine}
 use Rattle.runs.proofs.Places.{sent-at, cell-stands}
 
@@ -86,44 +87,26 @@ module _ (F : Frame) where
 
 -- ---- the state of a run
 
--- how a receiver goes with the number n of symbols heard since the starting phase j
-pub record Tracks (F : Frame) (j n : ℕ) (v : Receiver) : Type 0 where
-  pub phase : v .state .phase ≡ phaseOf F j n
-  pub row : v .state .row ≡ n % F .depth
-  pub heard : v .state .heard ≡ min n (F .depth - 1)
-  pub fits : F .depth * cells F ≤ length (v .store)
+-- a receiver n accepted steps after the starting phase j
+record Tracks (F : Frame) (j n : ℕ) (v : Receiver) : Type 0 where
+  numbered : Numbered F j n (v .state .phase) (v .state .row) (v .store)
+  heard : v .state .heard ≡ min n (F .depth - 1)
 
-tracks-next : (F : Frame) (j n : ℕ) (v : Receiver) (y : List ℕ) → 0 < F .depth → Tracks F j n v → Tracks F j (suc n) (nextHeard F v y)
+tracks-on : (F : Frame) (j : ℕ) → 0 < F .depth → (n : ℕ) (v : Receiver) (a : Arrival) → receiveGrounds F v a ≡ Fine → Tracks F j n v → Tracks F j (suc n) (receiverLeft (frameReceive F v a))
 unfolding nextHeard heardState heardStore receive.warming
-tracks-next F j n v y pos t = record {
-  phase = rw (t .phase) (mod-add-mod (j + n) (F .phases) 1 ∙ ap (λ (x : ℕ). x % F .phases) (let e : j + n + 1 ≡ j + suc n = omega arith in e));
-  row = rw (t .row) (row-next (F .depth) n);
-  heard =
-      by-test (ltb (v .state .heard) (F .depth - 1))
-      (λ q. let h : v .state .heard < F .depth - 1 = ltb-true (v .state .heard) (F .depth - 1) q in rw q (omega (arith, t .heard)))
-      (λ q. let h : F .depth - 1 ≤ v .state .heard = ltb-false (v .state .heard) (F .depth - 1) q in rw q (omega (arith, t .heard)));
-  fits = rw (length-put (F .depth) (cells F) pos) (t .fits);
-}
-
-tracks-after : (F : Frame) (j n : ℕ) (v : Receiver) (steps : List Arrival) → 0 < F .depth → Tracks F j n v
-    → Tracks F j (n + length (heard (frameEntries F) v steps)) (receiverAfter (frameEntries F) v steps)
-tracks-after F j n v [] pos t = unfold heard acceptedSteps afterSteps in (rw (add-zero n) t)
-tracks-after F j n v (a ∷ rest) pos t =
-    by-finding (receiveGrounds F v a)
-    (λ h.
-    let w : Receiver = nextHeard F v (a .symbol) in
-    let e : n + suc (length (heard (frameEntries F) w rest)) ≡ suc n + length (heard (frameEntries F) w rest) = omega arith in
-    rw (heard-fine F v a rest h, after-fine F v a rest h, e) (tracks-after F j (suc n) w rest pos (tracks-next F j n v (a .symbol) pos t)))
-    (λ m place h. rw (heard-ground F v a rest m place h, after-ground F v a rest m place h) (tracks-after F j n v rest pos t))
+tracks-on F j pos n v a h t =
+    rw (left-fine F v a h)
+    (record {
+      numbered = numbered-next F j n (v .state .phase) (v .state .row) (v .store) (lineCells F (a .symbol)) pos (t .numbered);
+      heard =
+          by-test (ltb (v .state .heard) (F .depth - 1))
+          (λ q. let h : v .state .heard < F .depth - 1 = ltb-true (v .state .heard) (F .depth - 1) q in rw q (omega (arith, t .heard)))
+          (λ q. let h : F .depth - 1 ≤ v .state .heard = ltb-false (v .state .heard) (F .depth - 1) q in rw q (omega (arith, t .heard)));
+    })
 
 tracks-fresh : (F : Frame) (j : ℕ) (lent : List ℕ) → j < F .phases → F .depth * cells F ≤ length lent → Tracks F j 0 (freshReceiver F j lent)
 unfolding freshReceiver fillerStore
-tracks-fresh F j lent hj fits = record {
-  phase = rw (add-zero, mod-eq-of-lt hj) refl;
-  row = sym (zero-mod (F .depth));
-  heard = omega arith;
-  fits = rw length-sets fits;
-}
+tracks-fresh F j lent hj fits = record { numbered = numbered-fresh F j _ hj (rw length-sets fits); heard = omega arith }
 
 -- no ground refuses a step whose numbers, lengths and cells are all right
 no-ground : (F : Frame) (v : Receiver) (a : Arrival) → v .state .phase < F .phases → v .state .row < F .depth → v .state .heard < F .depth
@@ -223,8 +206,12 @@ module _ (F : Frame) (ok : Sound F) (j : ℕ) (e : Emitter) (fresh : FreshIn F j
         ∙ rw (zero-add (t + (F .depth - 1)), le-ltb (t + (F .depth - 1)) (F .depth - 1) (omega arith), out-phase F ok j t) (ap (handed (dataCells F j t)) (out-data t h))
 
     tracks : Tracks F j (length hs) (receiverAfter (frameEntries F) (freshReceiver F j lent) arrivals)
-    unfolding hs
-    tracks = rw zero-add at (tracks-after F j 0 (freshReceiver F j lent) arrivals (ok .depth-pos) (tracks-fresh F j lent (fresh .phase-in) fits))
+    unfolding hs heard
+    tracks =
+        rw length-map
+        (rw zero-add at
+        (after-numbered (frameReceive F) (λ r. isReceived (r .answer)) receiverLeft (receiveGrounds F) (Tracks F j) (λ v a. fine-received F v a) (λ v a. away F v a) (tracks-on F j (ok .depth-pos)) 0
+        (freshReceiver F j lent) arrivals (tracks-fresh F j lent (fresh .phase-in) fits)))
 
     module _ (fitting : (n k : ℕ) → n < length ys → k < F .width → fitsRole (F .role (phaseOf F j n) k) (getD (getD ys n []) k 0) ≡ true) where
       next : (a : Arrival) → length hs < length ys → a .symbol ≡ getD ys (length hs) []
@@ -236,12 +223,13 @@ module _ (F : Frame) (ok : Sound F) (j : ℕ) (e : Emitter) (fresh : FreshIn F j
           let n : ℕ = length hs in
           let l : n < length gs = rw (length-sent F e steps) at h in
           let t = tracks in
+          let c = t .numbered in
           let y : length (a .symbol) ≡ F .width = ap length (is ∙ sent-at F ok j e fresh steps n l) ∙ length-line F (ok .key-inj) (closedCells F j gs n) in
           fine-received F w a
           (no-ground F w a
-          (rw (t .phase) (mod-lt (j + n) (omega (arith, fresh .phase-in)))) (rw (t .row) (mod-lt n (ok .depth-pos))) (omega (arith, t .heard, ok .depth-pos)) (t .fits) y
-          (enough F (w .state) (a .buffer) (λ c. long n room (w .state) (t .phase) (omega (arith, c, t .heard))))
-          (λ k hk. right-cell F (w .state .phase) (a .symbol) k (rw (t .phase, is) (fitting n k h hk))))
+          (rw (c .phase-is) (mod-lt (j + n) (omega (arith, fresh .phase-in)))) (rw (c .row-is) (mod-lt n (ok .depth-pos))) (omega (arith, t .heard, ok .depth-pos)) (c .fits) y
+          (enough F (w .state) (a .buffer) (λ m. long n room (w .state) (c .phase-is) (omega (arith, m, t .heard))))
+          (λ k hk. right-cell F (w .state .phase) (a .symbol) k (rw (c .phase-is, is) (fitting n k h hk))))
         where
           long : (n : ℕ) → (F .depth - 1 ≤ n → dataCells F j (n - (F .depth - 1)) ≤ length (a .buffer)) → (v : ReceiverState) → v .phase ≡ phaseOf F j n → F .depth - 1 ≤ n
               → outCount F v ≤ length (a .buffer)

@@ -23,7 +23,7 @@ use Rattle.rules.specs.Steps.{Emitter, Send, Sending, Starting, starts, refused
 use Rattle.rules.specs.Receive.{listens, turnedAway, frameReceive, frameListen, hearStep, listenStep}
 use Rattle.records.proofs.RecordLaws.{not-fine, both-fine}
 use Rattle.facts.proofs.Accepted.{when-fine}
-use Rattle.runs.specs.Run.{acceptedSteps, afterSteps, Entries, cellEntries, readGiven, isSent, stateOf, input, sent, emitterAfter, isStarted, Fresh}
+use Rattle.runs.specs.Run.{acceptedSteps, Entries, cellEntries, readGiven, isSent, stateOf, emitterLeft, input, sent, isStarted, Fresh}
 
 -- ---- findings
 
@@ -105,6 +105,13 @@ module _ (F : Frame) (e : Emitter) (a : Send) where
       let s : frameStep F e a ≡ refused e a n place = step-ground n place h in
       (ap (λ (r : Sending). stateOf (r .answer)) s, ap (λ (r : Sending). r .store) s, ap (λ (r : Sending). r .symbol) s))
 
+  pub left-sent : sendGrounds F e a ≡ Fine → emitterLeft (frameStep F e a) ≡ next F e (a .given)
+  unfolding accepted next
+  left-sent h = ap emitterLeft (step-fine h)
+
+  pub away : (n place : ℕ) → sendGrounds F e a ≡ Ground n place → (isSent (frameStep F e a .answer) ≡ false) × (emitterLeft (frameStep F e a) ≡ e)
+  away n place h = (ap (λ (r : Sending). isSent (r .answer)) (step-ground n place h), ap emitterLeft (step-ground n place h))
+
   module _ (rest : List Send) where
     pub input-sent : sendGrounds F e a ≡ Fine → input (frameEntries F) e (a ∷ rest) ≡ a .given ∷ input (frameEntries F) (next F e (a .given)) rest
     unfolding input acceptedSteps accepted next
@@ -121,14 +128,6 @@ module _ (F : Frame) (e : Emitter) (a : Send) where
     pub sent-ground : (n place : ℕ) → sendGrounds F e a ≡ Ground n place → sent (frameEntries F) e (a ∷ rest) ≡ sent (frameEntries F) e rest
     unfolding sent acceptedSteps
     sent-ground n place h = rw (step-ground n place h) refl
-
-    pub after-sent : sendGrounds F e a ≡ Fine → emitterAfter (frameEntries F) e (a ∷ rest) ≡ emitterAfter (frameEntries F) (next F e (a .given)) rest
-    unfolding afterSteps accepted next
-    after-sent h = rw (step-fine h) refl
-
-    pub after-ground : (n place : ℕ) → sendGrounds F e a ≡ Ground n place → emitterAfter (frameEntries F) e (a ∷ rest) ≡ emitterAfter (frameEntries F) e rest
-    unfolding afterSteps
-    after-ground n place h = rw (step-ground n place h) refl
 
 -- ---- a fresh start
 
