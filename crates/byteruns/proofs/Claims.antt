@@ -22,16 +22,16 @@ use Rattle.runs.proofs.Claims.{accepted-demand3, accepted-claims}
 use Rattle.byteruns.specs.ByteEntries.{byteEntries, sendGiven}
 use Rattle.byteruns.proofs.Sends.{readEmitter, oddGiven, cellSends, input-same, sent-same, after-same, even-after, fresh-cells, fresh-even, starts-whole, sends-whole}
 use Rattle.byteruns.proofs.Hears as hears
-use Rattle.byteruns.proofs.Hears.{readReceiver, readArrival, cellArrivals, heard-same, told-same, listens-whole, hears-whole}
+use Rattle.byteruns.proofs.Hears.{readReceiver, readArrival, cellArrivals, heard-same, outcome-same, listens-whole, hears-whole}
 
 module _ (d : Device) (s : List ℕ) (F : Frame) where
   -- what the receiver tells
   returned : (j : ℕ) (gs : List Given) (ys : List (List ℕ)) (v : Receiver) → FreshReceiver (byteEntries d s) j v → (arrivals : List Arrival)
       → Returned F (cellEntries d s) j gs ys (readReceiver v) (cellArrivals d s v arrivals) → Returned F (byteEntries d s) j gs ys v arrivals
   returned j gs ys v f arrivals r = record {
-    each = rw (told-same d s v arrivals, heard-same d s v arrivals) (r .each);
-    warms = rw (told-same d s v arrivals, heard-same d s v arrivals) (r .warms);
-    back = rw (told-same d s v arrivals, heard-same d s v arrivals) (r .back);
+    each = rw (outcome-same d s v arrivals, heard-same d s v arrivals) (r .each);
+    warms = rw (outcome-same d s v arrivals, heard-same d s v arrivals) (r .warms);
+    back = rw (outcome-same d s v arrivals, heard-same d s v arrivals) (r .back);
     next = rw (heard-same d s v arrivals) (λ a wy wb h is room.
         hears-whole d s (receiverAfter (byteEntries d s) v arrivals) a (hears.even-after d s v arrivals (hears.fresh-even d s j v f)) (not-true (odd (a .symbol)) wy) (not-true (odd (a .buffer)) wb)
         (ap (λ (x : Receiver). isReceived (hearStep d s x (readArrival a) .answer)) (hears.after-same d s v arrivals)

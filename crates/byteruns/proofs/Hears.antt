@@ -11,7 +11,7 @@ use Rattle.rules.specs.Receive.{Receiver, Arrival, Receiving, hears, Listening,
 use Rattle.bytecells.specs.Octets.{cellsOf, odd}
 use Rattle.bytecells.specs.ByteSteps.{listenedBytes, heardBytes, listenBytes, receiveBytes}
 use Rattle.bytecells.proofs.OctetLaws.{cells-bytes}
-use Rattle.runs.specs.Run.{cellEntries, isReceived, receiverLeft, toldBy, receivings, heard, told, receiverAfter, isListening, FreshReceiver}
+use Rattle.runs.specs.Run.{cellEntries, isReceived, receiverLeft, outcomeOf, receivings, heard, outcomes, receiverAfter, isListening, FreshReceiver}
 use Rattle.byteruns.specs.ByteEntries.{hearBytes, byteEntries}
 use Rattle.byteruns.proofs.Kept.{map-twice, after-keeps, Reading, kept, kept-accepted, kept-after}
 use Rattle.byteruns.proofs.Starts as start
@@ -84,11 +84,11 @@ module _ (d : Device) (s : List ℕ) where
         sym (map-twice (λ x. (readArrival (x .0), readReceiving (x .1))) (λ x. x .0 .symbol) (receivings (byteEntries d s) v steps))
         ∙ ap (map (λ x. x .0 .symbol)) receivings-same
 
-    pub told-same : told (byteEntries d s) v steps ≡ told (cellEntries d s) (readReceiver v) cellArrivals
-    unfolding told readReceiving
-    told-same =
-        sym (map-twice (λ x. (readArrival (x .0), readReceiving (x .1))) (λ x. toldBy (x .1 .answer) (x .1 .buffer)) (receivings (byteEntries d s) v steps))
-        ∙ ap (map (λ x. toldBy (x .1 .answer) (x .1 .buffer))) receivings-same
+    pub outcome-same : outcomes (byteEntries d s) v steps ≡ outcomes (cellEntries d s) (readReceiver v) cellArrivals
+    unfolding outcomes readReceiving
+    outcome-same =
+        sym (map-twice (λ x. (readArrival (x .0), readReceiving (x .1))) (λ x. outcomeOf (x .1 .answer) (x .1 .buffer)) (receivings (byteEntries d s) v steps))
+        ∙ ap (map (λ x. outcomeOf (x .1 .answer) (x .1 .buffer))) receivings-same
 
     pub after-same : readReceiver (receiverAfter (byteEntries d s) v steps) ≡ receiverAfter (cellEntries d s) (readReceiver v) cellArrivals
     unfolding cellArrivals reading

@@ -23,7 +23,7 @@ use Rattle.rules.specs.Receive.{Receiver, Arrival, Receiving, Listening, listen
 use Rattle.records.proofs.RecordLaws.{both-fine}
 use Rattle.facts.proofs.Accepted.{when-fine}
 use Rattle.frame.proofs.Cells.{length-data}
-use Rattle.runs.specs.Run.{acceptedSteps, isReceived, receiverLeft, Told, warming, handed, toldBy, receivings, heard, told, isListening, FreshReceiver}
+use Rattle.runs.specs.Run.{acceptedSteps, isReceived, receiverLeft, Outcome, warming, handed, outcomeOf, receivings, heard, outcomes, isListening, FreshReceiver}
 use Rattle.runs.proofs.Steps.{frameEntries, not-refused}
 
 -- what was stored from the start on is what stands there
@@ -40,7 +40,7 @@ unfoldable pub nextHeard : Frame → Receiver → List ℕ → Receiver
 nextHeard F v y = record { state = heardState F (v .state); store = heardStore F v y }
 
 -- what an accepted step tells that hands out xs unless it is warming
-unfoldable pub tells : Frame → ReceiverState → List ℕ → Told
+unfoldable pub tells : Frame → ReceiverState → List ℕ → Outcome
 tells F v xs = pick (receive.warming F v) warming (handed (outCount F v) xs)
 
 module _ (F : Frame) (v : Receiver) (a : Arrival) where
@@ -70,7 +70,7 @@ module _ (F : Frame) (v : Receiver) (a : Arrival) where
       let short = when-fine 17 0 _ (both-fine _ (ground20 F (v .state .phase) (a .symbol)) rest .0) in
       ltb-false _ _ (sym (ap (λ (b : Bool). not b && ltb (length (a .buffer)) (outCount F (v .state))) q) ∙ neither (shortStore F (v .store) || not (eqb (length (a .symbol)) (F .width))) _ short .1)
 
-  tells-handed : receiveGrounds F v a ≡ Fine → toldBy (received F v a .answer) (received F v a .buffer) ≡ tells F (v .state) (receive.handed F v (a .symbol))
+  tells-handed : receiveGrounds F v a ≡ Fine → outcomeOf (received F v a .answer) (received F v a .buffer) ≡ tells F (v .state) (receive.handed F v (a .symbol))
   unfolding received tells receive.handed
   tells-handed h =
       by-test (receive.warming F (v .state)) (λ q. rw q refl)
@@ -92,19 +92,19 @@ module _ (F : Frame) (v : Receiver) (a : Arrival) where
     unfolding heard acceptedSteps
     heard-ground n place h = rw (step-ground n place h) refl
 
-    pub told-fine : receiveGrounds F v a ≡ Fine
-        → told (frameEntries F) v (a ∷ rest) ≡ tells F (v .state) (receive.handed F v (a .symbol)) ∷ told (frameEntries F) (nextHeard F v (a .symbol)) rest
-    unfolding told acceptedSteps received nextHeard
-    told-fine h = rw (← tells-handed h) (by-test (receive.warming F (v .state)) (λ q. rw (step-fine h, q) refl) (λ q. rw (step-fine h, q) refl))
+    pub outcome-fine : receiveGrounds F v a ≡ Fine
+        → outcomes (frameEntries F) v (a ∷ rest) ≡ tells F (v .state) (receive.handed F v (a .symbol)) ∷ outcomes (frameEntries F) (nextHeard F v (a .symbol)) rest
+    unfolding outcomes acceptedSteps received nextHeard
+    outcome-fine h = rw (← tells-handed h) (by-test (receive.warming F (v .state)) (λ q. rw (step-fine h, q) refl) (λ q. rw (step-fine h, q) refl))
 
-    pub told-ground : (n place : ℕ) → receiveGrounds F v a ≡ Ground n place → told (frameEntries F) v (a ∷ rest) ≡ told (frameEntries F) v rest
-    unfolding told acceptedSteps
-    told-ground n place h = rw (step-ground n place h) refl
+    pub outcome-ground : (n place : ℕ) → receiveGrounds F v a ≡ Ground n place → outcomes (frameEntries F) v (a ∷ rest) ≡ outcomes (frameEntries F) v rest
+    unfolding outcomes acceptedSteps
+    outcome-ground n place h = rw (step-ground n place h) refl
 
 -- each accepted step tells something
-pub length-told : (F : Frame) (v : Receiver) (steps : List Arrival) → length (told (frameEntries F) v steps) ≡ length (heard (frameEntries F) v steps)
-unfolding told heard
-length-told F v steps = length-map (receivings (frameEntries F) v steps) _ ∙ sym (length-map (receivings (frameEntries F) v steps) (λ x. x .0 .symbol))
+pub length-outcomes : (F : Frame) (v : Receiver) (steps : List Arrival) → length (outcomes (frameEntries F) v steps) ≡ length (heard (frameEntries F) v steps)
+unfolding outcomes heard
+length-outcomes F v steps = length-map (receivings (frameEntries F) v steps) _ ∙ sym (length-map (receivings (frameEntries F) v steps) (λ x. x .0 .symbol))
 
 -- ---- a fresh start
 

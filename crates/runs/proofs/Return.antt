@@ -25,10 +25,10 @@ use Rattle.delay.specs.Ring.{ringSent}
 use Rattle.delay.proofs.Ring.{late}
 use Rattle.frame.specs.Counted.{phaseOf}
 use Rattle.frame.proofs.Cells.{Sound, data-back, length-line-cells, line-cell, length-line}
-use Rattle.runs.specs.Run.{acceptedSteps, input, sent, isReceived, receiverLeft, Told, warming, handed, refused, heard, told, receiverAfter}
+use Rattle.runs.specs.Run.{acceptedSteps, input, sent, isReceived, receiverLeft, Outcome, warming, handed, refused, heard, outcomes, receiverAfter}
 use Rattle.runs.specs.Demand3.{dataCells, sentNumber, Follows, Returned}
 use Rattle.runs.proofs.Steps.{frameEntries, by-finding, list-length, FreshIn}
-use Rattle.runs.proofs.Hears.{nextHeard, tells, fine-received, left-fine, away, heard-fine, heard-ground, told-fine, told-ground, length-told, freshReceiver, ListensIn}
+use Rattle.runs.proofs.Hears.{nextHeard, tells, fine-received, left-fine, away, heard-fine, heard-ground, outcome-fine, outcome-ground, length-outcomes, freshReceiver, ListensIn}
 use Rattle.runs.proofs.Numbered.{Numbered, numbered-fresh, numbered-next, after-numbered}
 use Rattle.runs.proofs.Emit.{closedCells, delay-below, length-sent, input-fine}
 use Rattle.runs.proofs.Places.{sent-at, cell-stands}
@@ -41,8 +41,8 @@ module _ (F : Frame) where
   taken r s ys = ringSent (F .depth) (cells F) (rowsBack F) r s (map (lineCells F) ys)
 
   -- what step number i tells, from the phase j and with h symbols heard before, if zs are taken from the ring
-  toldAt : ℕ → ℕ → List (List ℕ) → ℕ → Told
-  toldAt j h zs i = pick (ltb (h + i) (F .depth - 1)) warming (handed (dataCount F (outPhase F (phaseOf F j i))) (dataOf F (outPhase F (phaseOf F j i)) (getD zs i [])))
+  outcomeAt : ℕ → ℕ → List (List ℕ) → ℕ → Outcome
+  outcomeAt j h zs i = pick (ltb (h + i) (F .depth - 1)) warming (handed (dataCount F (outPhase F (phaseOf F j i))) (dataOf F (outPhase F (phaseOf F j i)) (getD zs i [])))
 
   -- the number of symbols heard, one step on
   heard-on : (v : ReceiverState) (i : ℕ) → ltb (heardState F v .heard + i) (F .depth - 1) ≡ ltb (v .heard + suc i) (F .depth - 1)
@@ -54,36 +54,36 @@ module _ (F : Frame) where
       let h : F .depth - 1 ≤ v .heard = ltb-false (v .heard) (F .depth - 1) q in
       rw q (le-ltb (v .heard + i) (F .depth - 1) (omega arith) ∙ sym (le-ltb (v .heard + suc i) (F .depth - 1) (omega arith))))
 
-  told-first : (v : ReceiverState) (z : List ℕ) (zs : List (List ℕ)) → v .phase < F .phases
-      → tells F v (dataOf F (outPhase F (v .phase)) z) ≡ toldAt (v .phase) (v .heard) (z ∷ zs) 0
-  unfolding toldAt tells receive.warming
-  told-first v z zs hj = rw (add-zero (v .heard), add-zero (v .phase), mod-eq-of-lt hj) refl
+  outcome-first : (v : ReceiverState) (z : List ℕ) (zs : List (List ℕ)) → v .phase < F .phases
+      → tells F v (dataOf F (outPhase F (v .phase)) z) ≡ outcomeAt (v .phase) (v .heard) (z ∷ zs) 0
+  unfolding outcomeAt tells receive.warming
+  outcome-first v z zs hj = rw (add-zero (v .heard), add-zero (v .phase), mod-eq-of-lt hj) refl
 
-  told-rest : (v : ReceiverState) (z : List ℕ) (zs : List (List ℕ)) (i : ℕ)
-      → toldAt (nextPhase F (v .phase)) (heardState F v .heard) zs i ≡ toldAt (v .phase) (v .heard) (z ∷ zs) (suc i)
-  unfolding toldAt
-  told-rest v z zs i =
+  outcome-rest : (v : ReceiverState) (z : List ℕ) (zs : List (List ℕ)) (i : ℕ)
+      → outcomeAt (nextPhase F (v .phase)) (heardState F v .heard) zs i ≡ outcomeAt (v .phase) (v .heard) (z ∷ zs) (suc i)
+  unfolding outcomeAt
+  outcome-rest v z zs i =
       let e : v .phase + suc i ≡ v .phase + 1 + i = omega arith in
       rw (heard-on v i, e, ← mod-add-mod (v .phase + 1) (F .phases) i) refl
 
-  told-ring : (v : Receiver) (steps : List Arrival) → v .state .phase < F .phases
-      → told (frameEntries F) v steps
-      ≡ tabulate (toldAt (v .state .phase) (v .state .heard) (taken (v .state .row) (v .store) (heard (frameEntries F) v steps))) (length (heard (frameEntries F) v steps))
+  outcome-ring : (v : Receiver) (steps : List Arrival) → v .state .phase < F .phases
+      → outcomes (frameEntries F) v steps
+      ≡ tabulate (outcomeAt (v .state .phase) (v .state .heard) (taken (v .state .row) (v .store) (heard (frameEntries F) v steps))) (length (heard (frameEntries F) v steps))
   unfolding tabulate taken ringSent nextHeard heardState heardStore receive.handed
-  told-ring v [] hj = unfold told heard acceptedSteps in refl
-  told-ring v (a ∷ rest) hj =
+  outcome-ring v [] hj = unfold outcomes heard acceptedSteps in refl
+  outcome-ring v (a ∷ rest) hj =
       by-finding (receiveGrounds F v a)
       (λ h.
       let w : Receiver = nextHeard F v (a .symbol) in
       let ys : List (List ℕ) = heard (frameEntries F) w rest in
       let zs : List (List ℕ) = taken (nextRow (F .depth) (v .state .row)) (heardStore F v (a .symbol)) ys in
       let z : List ℕ = delayed (F .depth) (cells F) (rowsBack F) (heardStore F v (a .symbol)) (v .state .row) in
-      rw (told-fine F v a rest h, heard-fine F v a rest h)
-      (ap₂ (λ (x : Told) (l : List Told). x ∷ l) (told-first (v .state) z zs hj)
-      (told-ring w rest (mod-lt (v .state .phase + 1) (omega arith))
-      ∙ tabulate-cong (toldAt (nextPhase F (v .state .phase)) (heardState F (v .state) .heard) zs) (λ i. toldAt (v .state .phase) (v .state .heard) (z ∷ zs) (suc i)) (length ys)
-      (λ i l. told-rest (v .state) z zs i))))
-      (λ n place h. rw (told-ground F v a rest n place h, heard-ground F v a rest n place h) (told-ring v rest hj))
+      rw (outcome-fine F v a rest h, heard-fine F v a rest h)
+      (ap₂ (λ (x : Outcome) (l : List Outcome). x ∷ l) (outcome-first (v .state) z zs hj)
+      (outcome-ring w rest (mod-lt (v .state .phase + 1) (omega arith))
+      ∙ tabulate-cong (outcomeAt (nextPhase F (v .state .phase)) (heardState F (v .state) .heard) zs) (λ i. outcomeAt (v .state .phase) (v .state .heard) (z ∷ zs) (suc i)) (length ys)
+      (λ i l. outcome-rest (v .state) z zs i))))
+      (λ n place h. rw (outcome-ground F v a rest n place h, heard-ground F v a rest n place h) (outcome-ring v rest hj))
 
 -- ---- the state of a run
 
@@ -188,21 +188,21 @@ module _ (F : Frame) (ok : Sound F) (j : ℕ) (e : Emitter) (fresh : FreshIn F j
         (λ p hp. out-cell t p h hp)
 
     -- what step number i tells
-    told-at : (i : ℕ) → i < length hs → getD (told (frameEntries F) (freshReceiver F j lent) arrivals) i refused ≡ toldAt F j 0 outs i
+    outcome-at : (i : ℕ) → i < length hs → getD (outcomes (frameEntries F) (freshReceiver F j lent) arrivals) i refused ≡ outcomeAt F j 0 outs i
     unfolding outs hs freshReceiver
-    told-at i h =
-        ap (λ (l : List Told). getD l i refused) (told-ring F (freshReceiver F j lent) arrivals (fresh .phase-in))
+    outcome-at i h =
+        ap (λ (l : List Outcome). getD l i refused) (outcome-ring F (freshReceiver F j lent) arrivals (fresh .phase-in))
         ∙ getD-tabulate _ (length hs) refused i h
 
-    warms : (i : ℕ) → i < length hs → i < F .depth - 1 → getD (told (frameEntries F) (freshReceiver F j lent) arrivals) i refused ≡ warming
-    unfolding toldAt
-    warms i h l = told-at i h ∙ rw (zero-add i, lt-ltb i (F .depth - 1) l) refl
+    warms : (i : ℕ) → i < length hs → i < F .depth - 1 → getD (outcomes (frameEntries F) (freshReceiver F j lent) arrivals) i refused ≡ warming
+    unfolding outcomeAt
+    warms i h l = outcome-at i h ∙ rw (zero-add i, lt-ltb i (F .depth - 1) l) refl
 
     back : (t : ℕ) → t + (F .depth - 1) < length hs
-        → getD (told (frameEntries F) (freshReceiver F j lent) arrivals) (t + (F .depth - 1)) refused ≡ handed (dataCells F j t) (dataList F (phaseOf F j t) (getD gs t flush))
-    unfolding toldAt
+        → getD (outcomes (frameEntries F) (freshReceiver F j lent) arrivals) (t + (F .depth - 1)) refused ≡ handed (dataCells F j t) (dataList F (phaseOf F j t) (getD gs t flush))
+    unfolding outcomeAt
     back t h =
-        told-at (t + (F .depth - 1)) h
+        outcome-at (t + (F .depth - 1)) h
         ∙ rw (zero-add (t + (F .depth - 1)), le-ltb (t + (F .depth - 1)) (F .depth - 1) (omega arith), out-phase F ok j t) (ap (handed (dataCells F j t)) (out-data t h))
 
     tracks : Tracks F j (length hs) (receiverAfter (frameEntries F) (freshReceiver F j lent) arrivals)
@@ -241,7 +241,7 @@ module _ (F : Frame) (ok : Sound F) (j : ℕ) (e : Emitter) (fresh : FreshIn F j
 
       in-lent : Returned F (frameEntries F) j gs ys (freshReceiver F j lent) arrivals
       unfolding hs
-      in-lent = record { each = length-told F (freshReceiver F j lent) arrivals; warms = warms; back = back; next = λ a w b. next a }
+      in-lent = record { each = length-outcomes F (freshReceiver F j lent) arrivals; warms = warms; back = back; next = λ a w b. next a }
 
 -- from a fresh start, if the sent symbols fit their roles
 pub returned : (F : Frame) → Sound F → (j : ℕ) (e : Emitter) → FreshIn F j e → (steps : List Send) (v : Receiver) → ListensIn F j v → (arrivals : List Arrival)

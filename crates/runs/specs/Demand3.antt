@@ -11,7 +11,7 @@ use Rattle.rules.specs.Frame.{Frame, cells, spot, delay, isData, dataCount, Giv
 use Rattle.rules.specs.Steps.{Emitter, Send}
 use Rattle.rules.specs.Receive.{Receiver, Arrival}
 use Rattle.frame.specs.Counted.{phaseOf}
-use Rattle.runs.specs.Run.{Entries, input, sent, Fresh, isReceived, warming, handed, refused, heard, told, receiverAfter, FreshReceiver}
+use Rattle.runs.specs.Run.{Entries, input, sent, Fresh, isReceived, warming, handed, refused, heard, outcomes, receiverAfter, FreshReceiver}
 
 -- How many data cells input t has, from the starting phase j; `phaseOf F j t` is the phase of input t, and of sent symbol t.
 abbrev pub dataCells : Frame → ℕ → ℕ → ℕ
@@ -52,14 +52,14 @@ pub record Flushed (m : ℕ) (gs : List Given) : Type 0 where
 abbrev pub Follows : List (List ℕ) → List (List ℕ) → Type 0
 Follows ys hs = hs ≡ take (length hs) ys
 
--- what the steps of a receiver v tell, if its run follows an emitter's with the input gs and the sent symbols ys
+-- the outcomes of the steps of a receiver v, if its run follows an emitter's with the input gs and the sent symbols ys
 pub record Returned (F : Frame) (E : Entries) (j : ℕ) (gs : List Given) (ys : List (List ℕ)) (v : Receiver) (steps : List Arrival) : Type 0 where
-  -- each accepted step tells something; numbers 0 to M - 2 answer warming
-  pub each : length (told E v steps) ≡ length (heard E v steps)
-  pub warms : (i : ℕ) → i < length (heard E v steps) → i < F .depth - 1 → getD (told E v steps) i refused ≡ warming
+  -- each accepted step has one; numbers 0 to M - 2 answer warming
+  pub each : length (outcomes E v steps) ≡ length (heard E v steps)
+  pub warms : (i : ℕ) → i < length (heard E v steps) → i < F .depth - 1 → getD (outcomes E v steps) i refused ≡ warming
   -- number t + M - 1 answers data, with N_D of input t as its count, and hands out the data cells of input t in the order given, all filler for a flush
   pub back : (t : ℕ) → t + (F .depth - 1) < length (heard E v steps)
-      → getD (told E v steps) (t + (F .depth - 1)) refused ≡ handed (dataCells F j t) (dataList F (phaseOf F j t) (getD gs t flush))
+      → getD (outcomes E v steps) (t + (F .depth - 1)) refused ≡ handed (dataCells F j t) (dataList F (phaseOf F j t) (getD gs t flush))
   -- one more step, given the next symbol sent and, unless it is to answer warming, a data buffer long enough, is not refused
   pub next : (a : Arrival) → E .whole (a .symbol) ≡ true → E .whole (a .buffer) ≡ true
       → length (heard E v steps) < length ys → E .read (a .symbol) ≡ getD ys (length (heard E v steps)) []

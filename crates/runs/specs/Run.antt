@@ -110,16 +110,16 @@ stateHeard (an-answer.Refused n place v) = v
 abbrev pub receiverLeft : Receiving → Receiver
 receiverLeft r = record { state = stateHeard (r .answer); store = r .store }
 
--- what a caller is told: warming, or data with a count and that many cells from the start of the buffer
-pub data Told : Type 0 where
-  warming : Told
-  handed : ℕ → List ℕ → Told
-  refused : Told
+-- the outcome of a receive step for its caller: warming, or data with a count and that many cells from the start of the buffer
+pub data Outcome : Type 0 where
+  warming : Outcome
+  handed : ℕ → List ℕ → Outcome
+  refused : Outcome
 
-abbrev pub toldBy : ReceiveAnswer → List ℕ → Told
-toldBy (an-answer.Warming v) buffer = warming
-toldBy (an-answer.Data v n) buffer = handed n (take n buffer)
-toldBy (an-answer.Refused n place v) buffer = refused
+abbrev pub outcomeOf : ReceiveAnswer → List ℕ → Outcome
+outcomeOf (an-answer.Warming v) buffer = warming
+outcomeOf (an-answer.Data v n) buffer = handed n (take n buffer)
+outcomeOf (an-answer.Refused n place v) buffer = refused
 
 module _ (E : Entries) (v : Receiver) (steps : List Arrival) where
   abbrev pub receivings : List (Arrival × Receiving)
@@ -129,9 +129,9 @@ module _ (E : Entries) (v : Receiver) (steps : List Arrival) where
   unfoldable pub heard : List (List ℕ)
   heard = map (λ x. E .read (x .0 .symbol)) receivings
 
-  -- what they told
-  unfoldable pub told : List Told
-  told = map (λ x. toldBy (x .1 .answer) (E .read (x .1 .buffer))) receivings
+  -- their outcomes
+  unfoldable pub outcomes : List Outcome
+  outcomes = map (λ x. outcomeOf (x .1 .answer) (E .read (x .1 .buffer))) receivings
 
   -- the receiver after the steps
   abbrev pub receiverAfter : Receiver
