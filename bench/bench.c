@@ -1,5 +1,6 @@
 /* Times the library beside the two C implementations, all in one run: in each round every implementation makes the same small batch of
  * calls, in turn, and what they leave is compared byte for byte. Each line gives the median round of each, in microseconds a call.
+ * With bench/ring.c, a library of version 2 runs too: its stores are others, all else is compared.
  *
  *     bench PLANS [ROUNDS]
  *
@@ -12,25 +13,28 @@
 #include <string.h>
 #include <time.h>
 
-enum { SYMBOL = 8192, DATA = 7490, STORE = 239680, ANSWER = 20, PHASES = 128, TRUNKS = 16 };
+enum { SYMBOL = 8192, DATA = 7490, ANSWER = 16, PHASES = 128, TRUNKS = 16 };
 enum { WARM = 2, TIMED = 16, BATCH = WARM + TIMED }; /* calls of a batch; the first are not timed, they bring the store into the cache */
 enum { TURNS = 3 };                                  /* turns of sixteen trunks, of which the first is not timed */
 enum { POOL = 8, MOST_ROUNDS = 4096 };
 enum call { JUDGE, EMIT, FLUSH, RECEIVE };
 
-extern const struct calls library, best_gcc, plain_gcc;
+extern const struct calls library, best_gcc, best_clang, plain_gcc, plain_clang, ring;
+static const struct calls *const ALL[] = {
+    &library, &best_gcc, &plain_gcc,
 #ifdef WITH_CLANG
-extern const struct calls best_clang, plain_clang;
-static const struct calls *const ALL[] = {&library, &best_gcc, &best_clang, &plain_gcc, &plain_clang};
-#else
-static const struct calls *const ALL[] = {&library, &best_gcc, &plain_gcc};
+    &best_clang, &plain_clang,
 #endif
+#ifdef WITH_RING
+    &ring,
+#endif
+};
 enum { IMPLEMENTATIONS = sizeof ALL / sizeof ALL[0] };
 
 /* An emitter or receiver. */
 struct trunk {
-    uint8_t store[STORE];
-    uint32_t phase, row, heard;
+    uint8_t *store;
+    uint32_t phase, heard;
 };
 
 /* What an implementation works on, and what its calls of a batch left. */
@@ -93,16 +97,15 @@ static void make(const struct calls *c, struct bench *b, enum call call, struct 
         return;
     }
     if (call == EMIT)
-        b->number[i] = c->emit(plan, plan_len, t->phase, t->row, t->store, STORE, pool[i % POOL], 2 * counts[t->phase], out, SYMBOL,
+        b->number[i] = c->emit(plan, plan_len, t->phase, t->store, c->store_bytes, pool[i % POOL], 2 * counts[t->phase], out, SYMBOL,
                                answer, ANSWER);
     if (call == FLUSH)
-        b->number[i] = c->flush(plan, plan_len, t->phase, t->row, t->store, STORE, out, SYMBOL, answer, ANSWER);
+        b->number[i] = c->flush(plan, plan_len, t->phase, t->store, c->store_bytes, out, SYMBOL, answer, ANSWER);
     if (call == RECEIVE)
-        b->number[i] = c->receive(plan, plan_len, t->phase, t->row, t->heard, t->store, STORE, arriving[i], SYMBOL, out, DATA, answer,
+        b->number[i] = c->receive(plan, plan_len, t->phase, t->heard, t->store, c->store_bytes, arriving[i], SYMBOL, out, DATA, answer,
                                   ANSWER);
     t->phase = get(answer + 4);
-    t->row = get(answer + 8);
-    t->heard = get(answer + 12);
+    t->heard = get(answer + 8);
 }
 
 /* A batch of calls; the answer is the time of one. */
@@ -121,13 +124,12 @@ static void start(const struct calls *c, struct bench *b, enum call call, int tr
 {
     for (int i = 0; i < trunks; i++) {
         struct trunk *t = &b->trunk[i];
-        uint32_t n = call == RECEIVE ? c->fresh_receiver(plan, plan_len, 5, t->store, STORE, b->answer[0], ANSWER)
-                                     : c->fresh_emitter(plan, plan_len, 5, t->store, STORE, b->answer[0], ANSWER);
+        uint32_t n = call == RECEIVE ? c->fresh_receiver(plan, plan_len, 5, t->store, c->store_bytes, b->answer[0], ANSWER)
+                                     : c->fresh_emitter(plan, plan_len, 5, t->store, c->store_bytes, b->answer[0], ANSWER);
         if (n != 0)
             fail("a fresh start is refused");
         t->phase = get(b->answer[0] + 4);
-        t->row = get(b->answer[0] + 8);
-        t->heard = get(b->answer[0] + 12);
+        t->heard = get(b->answer[0] + 8);
     }
 }
 
@@ -159,6 +161,16 @@ static void compare(enum call call, int trunks)
             fail("a step is refused");
 }
 
+/* The stores after the last round, of those that are laid out alike. */
+static void compare_stores(int trunks)
+{
+    size_t size = ALL[0]->store_bytes;
+    for (int n = 1; n < IMPLEMENTATIONS; n++)
+        for (int i = 0; i < trunks && ALL[n]->store_bytes == size; i++)
+            if (memcmp(bench[0]->trunk[i].store, bench[n]->trunk[i].store, size) != 0)
+                fail("the stores differ");
+}
+
 static int rising(const void *a, const void *b)
 {
     double x = *(const double *)a, y = *(const double *)b;
@@ -184,10 +196,8 @@ static void line(const char *name, enum call call, int trunks, int rounds)
         }
         compare(call, trunks);
     }
-    for (int n = 1; call != JUDGE && n < IMPLEMENTATIONS; n++)
-        for (int i = 0; i < trunks; i++)
-            if (memcmp(bench[0]->trunk[i].store, bench[n]->trunk[i].store, STORE) != 0)
-                fail("the stores differ");
+    if (call != JUDGE)
+        compare_stores(trunks);
     printf("%s\t%s", name, trunks == 1 ? calls[call] : call == EMIT ? "emit, 16 trunks" : "receive, 16 trunks");
     for (int n = 0; n < IMPLEMENTATIONS; n++) {
         qsort(bench[n]->time, (size_t)rounds, sizeof(double), rising);
@@ -214,9 +224,9 @@ static void load(const char *folder, const char *name, uint32_t depth)
         for (uint32_t j = 0; j < PHASES; j++) {
             if (ALL[n]->data_count(plan, plan_len, j, answer, ANSWER) != 0)
                 fail("a plan is refused");
-            if (n != 0 && counts[j] != get(answer + 16))
+            if (n != 0 && counts[j] != get(answer + 12))
                 fail("the counts differ");
-            counts[j] = get(answer + 16);
+            counts[j] = get(answer + 12);
         }
 }
 
@@ -243,6 +253,19 @@ static void head(void)
     printf("\n");
 }
 
+/* What an implementation works on, with its stores one behind the other. */
+static struct bench *make_bench(const struct calls *c)
+{
+    size_t room = (c->store_bytes + 63) / 64 * 64;
+    struct bench *b = calloc(1, sizeof *b);
+    uint8_t *stores = calloc(TRUNKS, room);
+    if (b == NULL || stores == NULL)
+        fail("no memory");
+    for (int i = 0; i < TRUNKS; i++)
+        b->trunk[i].store = stores + (size_t)i * room;
+    return b;
+}
+
 int main(int words, char **word)
 {
     static const struct { const char *name, *file; uint32_t depth; } plans[] = {
@@ -253,10 +276,8 @@ int main(int words, char **word)
     if (words < 2 || rounds < 1 || rounds > MOST_ROUNDS)
         fail("usage: bench PLANS [ROUNDS]");
     for (int n = 0; n < IMPLEMENTATIONS; n++)
-        if ((bench[n] = calloc(1, sizeof *bench[n])) == NULL)
-            fail("no memory");
-    if ((feed = calloc(1, sizeof *feed)) == NULL)
-        fail("no memory");
+        bench[n] = make_bench(ALL[n]);
+    feed = make_bench(&best_gcc);
     fill_pool();
     head();
     for (size_t i = 0; i < sizeof plans / sizeof plans[0]; i++) {

@@ -1,6 +1,7 @@
 /* The head end's calls in the fastest C we could write. Excluded and taken subcarriers are sets of 4,096 bits, so that a range costs the
  * same however long it is; cells stay as they are in memory, high byte first; the stretches of neighbouring subcarriers with a rank are
- * copied whole; rows are turned into columns eight by eight; placeholders are found by comparing sixteen cells at a time. */
+ * copied whole; rows are turned into columns eight by eight; placeholders are found by comparing sixteen cells at a time; a store is moved
+ * down as a whole. */
 #include "best.h"
 
 #include <string.h>
@@ -32,7 +33,7 @@ enum {
     NO_DATA = CELL(0xC000)
 };
 
-enum { SUBCARRIERS = 4096, WORDS = 64, PILOTS = 120, CELLS = 3745, SEGMENTS = 2048, ANSWER = 20 };
+enum { SUBCARRIERS = 4096, WORDS = 64, PILOTS = 120, CELLS = 3745, SEGMENTS = 2048, ANSWER = 16 };
 
 /* What a plan says: which subcarriers are excluded, and which are without a rank. */
 struct plan {
@@ -505,34 +506,111 @@ static void to_cells(const uint16_t *line, uint32_t n, cell *cells)
 
 /* --- the delay --- */
 
-/* Row r of the store, of the ring of m. */
-static inline const cell *ring(const struct plan *s, const uint8_t *store, uint32_t r)
+/* The places of an emitter's store, and of a receiver's. */
+static inline uint32_t emitter_places(const struct plan *s)
 {
-    return (const cell *)store + (size_t)s->n * (r < s->m ? r : r - s->m);
+    uint32_t groups = s->n / s->m, rest = s->n % s->m;
+    return (groups * s->m * (s->m - 1) + rest * rest - rest) / 2;
 }
 
-/* Cell p from the row of its residue: for residue d, row `row` + d * step of the ring. Four residues at a time. */
-static void gather(const struct plan *s, const uint8_t *store, uint32_t row, uint32_t step, uint16_t *cells)
+static inline uint32_t receiver_places(const struct plan *s)
 {
-    uint32_t m = s->m, n = s->n, d = 0;
-    const cell *from[32];
-    for (; d < m; d++) {
-        from[d] = ring(s, store, row);
-        row = row < m ? row + step : row - m + step;
-    }
-    for (d = 0; d + 4 <= m; d += 4) {
-        const cell *a = from[d], *b = from[d + 1] + 1, *c = from[d + 2] + 2, *e = from[d + 3] + 3;
-        uint32_t p = d;
-        for (; p + 3 < n; p += m) {
-            uint16_t x[4] = {a[p], b[p], c[p], e[p]};
-            memcpy(cells + p, x, 8);
+    return s->n * (s->m - 1) - emitter_places(s);
+}
+
+/* A step moves every place of a store down by one. So before it each cell that comes changes places with the oldest of the next cell that
+ * has places, which goes: moved down, it stands behind the places of its own cell. `last` is the cell that has still to be put. Two cells
+ * at once, from an even one on, and all of both read before any is put: that takes two thirds of the time.
+ *
+ * The cells of an emitter have 0, 1, 2 and so on up to `cells` - 1 places from s on. The answer is how many places those are. */
+static inline int is_even(const uint16_t *x)
+{
+    return (uintptr_t)x % 4 == 0;
+}
+
+static inline uint32_t exchange_rising(uint32_t cells, cell *s, uint16_t *x, uint16_t *last)
+{
+    uint32_t at = 0, d = 1;
+    uint16_t put = *last;
+    while (d < cells) {
+        uint16_t oldest = s[at], came = x[d];
+        if (is_even(x + d) && d + 1 < cells) {
+            uint16_t second = s[at + d], newest = x[d + 1];
+            s[at] = put;
+            s[at + d] = came;
+            x[d] = oldest;
+            x[d + 1] = second;
+            put = newest;
+            at += 2 * d + 1;
+            d += 2;
+        } else {
+            s[at] = put;
+            x[d] = oldest;
+            put = came;
+            at += d++;
         }
-        for (uint32_t j = 0; p + j < n && j < 4; j++)
-            cells[p + j] = from[d + j][p + j];
     }
-    for (; d < m; d++)
-        for (uint32_t p = d; p < n; p += m)
-            cells[p] = from[d][p];
+    *last = put;
+    return at;
+}
+
+/* The same of a receiver, whose cells have `most` places, one less and so on: at most `most` cells. */
+static inline uint32_t exchange_falling(uint32_t most, uint32_t cells, cell *s, uint16_t *x, uint16_t *last)
+{
+    uint32_t at = 0, p = 0;
+    uint16_t put = *last;
+    while (p < cells) {
+        uint16_t oldest = s[at], came = x[p];
+        uint32_t places = most - p;
+        if (is_even(x + p) && p + 1 < cells) {
+            uint16_t second = s[at + places], newest = x[p + 1];
+            s[at] = put;
+            s[at + places] = came;
+            x[p] = oldest;
+            x[p + 1] = second;
+            put = newest;
+            at += 2 * places - 1;
+            p += 2;
+        } else {
+            s[at] = put;
+            x[p] = oldest;
+            put = came;
+            at += places;
+            p++;
+        }
+    }
+    *last = put;
+    return at;
+}
+
+/* Moves the cells x into an emitter's store, and the oldest, which go, into x. */
+static void move_sent(const struct plan *s, uint8_t *store, uint16_t *x)
+{
+    uint32_t p = 0, at = 0;
+    cell *c = (cell *)store;
+    uint16_t last = 0;
+    if (s->m == 1)
+        return;
+    for (; p + s->m <= s->n; p += s->m)
+        at += exchange_rising(s->m, c + at, x + p, &last);
+    at += exchange_rising(s->n - p, c + at, x + p, &last);
+    memmove(store, store + 2, 2 * (at - 1));
+    c[at - 1] = last;
+}
+
+/* The same of a receiver. */
+static void move_received(const struct plan *s, uint8_t *store, uint16_t *x)
+{
+    uint32_t p = 0, at = 0;
+    cell *c = (cell *)store;
+    uint16_t last = 0;
+    if (s->m == 1)
+        return;
+    for (; p + s->m <= s->n; p += s->m)
+        at += exchange_falling(s->m - 1, s->m - 1, c + at, x + p, &last);
+    at += exchange_falling(s->m - 1, s->n - p, c + at, x + p, &last);
+    memmove(store, store + 2, 2 * (at - 1));
+    c[at - 1] = last;
 }
 
 /* --- the symbol on the line --- */
@@ -638,24 +716,24 @@ static uint32_t first_wrong(const struct plan *s, uint32_t phase, const cell *sy
 
 /* --- data --- */
 
-static inline void fill_filler(cell *row, uint32_t n, const uint16_t *holder, uint32_t holders)
+static inline void fill_filler(cell *x, uint32_t n, const uint16_t *holder, uint32_t holders)
 {
     for (uint32_t p = 0; p < n; p++)
-        row[p] = FILLER;
+        x[p] = FILLER;
     for (uint32_t i = 0; i < holders; i++)
-        row[holder[i]] = HOLDER;
+        x[holder[i]] = HOLDER;
 }
 
-static inline void fill_data(cell *row, uint32_t n, const uint16_t *holder, uint32_t holders, const cell *data)
+static inline void fill_data(cell *x, uint32_t n, const uint16_t *holder, uint32_t holders, const cell *data)
 {
     uint32_t p = 0;
     for (uint32_t i = 0; i < holders; i++) {
-        memcpy(row + p, data, 2 * (holder[i] - p));
+        memcpy(x + p, data, 2 * (holder[i] - p));
         data += holder[i] - p;
         p = holder[i];
-        row[p++] = HOLDER;
+        x[p++] = HOLDER;
     }
-    memcpy(row + p, data, 2 * (n - p));
+    memcpy(x + p, data, 2 * (n - p));
 }
 
 static inline void take_data(cell *data, const cell *cells, uint32_t n, const uint16_t *holder, uint32_t holders)
@@ -677,15 +755,13 @@ static inline void put(uint8_t *at, uint32_t x)
     memcpy(at, &x, 4);
 }
 
-static uint32_t say(uint8_t *answer, size_t answer_len, uint32_t ground, uint32_t place, uint32_t phase, uint32_t row, uint32_t heard,
-                    uint32_t value)
+static uint32_t say(uint8_t *answer, size_t answer_len, uint32_t ground, uint32_t place, uint32_t phase, uint32_t heard, uint32_t value)
 {
     if (answer_len >= ANSWER) {
         put(answer, place);
         put(answer + 4, phase);
-        put(answer + 8, row);
-        put(answer + 12, heard);
-        put(answer + 16, value);
+        put(answer + 8, heard);
+        put(answer + 12, value);
     }
     return ground;
 }
@@ -696,7 +772,7 @@ uint32_t best_judge(const uint8_t *plan, size_t plan_len, uint8_t *answer, size_
     if (answer_len < ANSWER)
         return 21;
     uint32_t g = judge(&s, plan, plan_len);
-    return say(answer, answer_len, g, g == 0 ? 0 : s.place, 0, 0, 0, g == 0 ? s.n : 0);
+    return say(answer, answer_len, g, g == 0 ? 0 : s.place, 0, 0, g == 0 ? s.n : 0);
 }
 
 uint32_t best_role(const uint8_t *plan, size_t plan_len, uint32_t subcarrier, uint32_t phase, uint8_t *answer, size_t answer_len)
@@ -716,7 +792,7 @@ uint32_t best_role(const uint8_t *plan, size_t plan_len, uint32_t subcarrier, ui
         case HOLDER: role = 4; break;
         default: role = 5;
         }
-    return say(answer, answer_len, g, g == 0 ? 0 : s.place, 0, 0, 0, role);
+    return say(answer, answer_len, g, g == 0 ? 0 : s.place, 0, 0, role);
 }
 
 uint32_t best_data_count(const uint8_t *plan, size_t plan_len, uint32_t phase, uint8_t *answer, size_t answer_len)
@@ -732,39 +808,51 @@ uint32_t best_data_count(const uint8_t *plan, size_t plan_len, uint32_t phase, u
         g = refuse(&s, 16, 0);
     if (g == 0)
         count = s.n - find_holders(&s, seg, find_segments(&s, seg), phase, holder);
-    return say(answer, answer_len, g, g == 0 ? 0 : s.place, 0, 0, 0, count);
+    return say(answer, answer_len, g, g == 0 ? 0 : s.place, 0, 0, count);
 }
 
-/* Grounds 1 to 15 of a plan, 16 and 17 of the phase, the row, the symbols heard and the store. */
-static uint32_t begin(struct plan *s, const uint8_t *plan, size_t plan_len, uint32_t phase, uint32_t row, uint32_t heard, size_t store_len)
+/* Grounds 1 to 16 of a plan, the phase and the symbols heard. */
+static uint32_t begin(struct plan *s, const uint8_t *plan, size_t plan_len, uint32_t phase, uint32_t heard)
 {
     uint32_t g = judge(s, plan, plan_len);
     if (g != 0)
         return g;
-    if (phase >= 128 || row >= s->m || heard >= s->m)
-        return refuse(s, 16, 0);
-    return store_len / 2 < s->m * s->n ? refuse(s, 17, 0) : 0;
+    return phase >= 128 || heard >= s->m ? refuse(s, 16, 0) : 0;
+}
+
+/* Of each cell of the symbols before the start the places that hold a placeholder: cell p, of delay d, is one in the symbol `back` steps
+ * back if its subcarrier less L + 8 is phase - back + d, modulo 128. */
+static void fill_fresh(const struct plan *s, uint32_t phase, cell *store)
+{
+    struct segment seg[SEGMENTS];
+    uint8_t away[CELLS + 64];
+    uint16_t start[128];
+    ramps(seg, find_segments(s, seg), (s->l + 8) & 127, away);
+    find_starts(s->n, start);
+    fill_filler(store, emitter_places(s), NULL, 0);
+    for (uint32_t p = 0, d = 0; p < s->n; p++) {
+        uint32_t back = (phase + d - away[start[p & 127] + (p >> 7)]) & 127;
+        store += d;
+        if (back - 1 < d)
+            *(store - back) = HOLDER;
+        d = d + 1 == s->m ? 0 : d + 1;
+    }
 }
 
 uint32_t best_fresh_emitter(const uint8_t *plan, size_t plan_len, uint32_t phase, uint8_t *store, size_t store_len,
                             uint8_t *answer, size_t answer_len)
 {
     struct plan s;
-    struct segment seg[SEGMENTS];
-    uint16_t holder[CELLS];
     if (answer_len < ANSWER || store_len % 2 != 0)
-        return say(answer, answer_len, 21, 0, 0, 0, 0, 0);
-    uint32_t g = begin(&s, plan, plan_len, phase, 0, 0, store_len);
+        return say(answer, answer_len, 21, 0, 0, 0, 0);
+    uint32_t g = begin(&s, plan, plan_len, phase, 0);
+    if (g == 0 && store_len / 2 < emitter_places(&s))
+        g = refuse(&s, 17, 0);
     if (g != 0)
-        return say(answer, answer_len, g, s.place, 0, 0, 0, 0);
-    uint32_t segments = find_segments(&s, seg);
-    cell *row = (cell *)store;
-    fill_filler(row, s.n, holder, 0);
-    for (uint32_t r = s.m - 1; r > 0; r--) {
-        row += s.n;
-        fill_filler(row, s.n, holder, find_holders(&s, seg, segments, (phase + 128 - r) & 127, holder));
-    }
-    return say(answer, answer_len, 0, 0, phase, 0, 0, 0);
+        return say(answer, answer_len, g, s.place, 0, 0, 0);
+    if (s.m > 1)
+        fill_fresh(&s, phase, (cell *)store);
+    return say(answer, answer_len, 0, 0, phase, 0, 0);
 }
 
 uint32_t best_fresh_receiver(const uint8_t *plan, size_t plan_len, uint32_t phase, uint8_t *store, size_t store_len,
@@ -772,112 +860,101 @@ uint32_t best_fresh_receiver(const uint8_t *plan, size_t plan_len, uint32_t phas
 {
     struct plan s;
     if (answer_len < ANSWER || store_len % 2 != 0)
-        return say(answer, answer_len, 21, 0, 0, 0, 0, 0);
-    uint32_t g = begin(&s, plan, plan_len, phase, 0, 0, store_len);
+        return say(answer, answer_len, 21, 0, 0, 0, 0);
+    uint32_t g = begin(&s, plan, plan_len, phase, 0);
+    if (g == 0 && store_len / 2 < receiver_places(&s))
+        g = refuse(&s, 17, 0);
     if (g != 0)
-        return say(answer, answer_len, g, s.place, 0, 0, 0, 0);
-    fill_filler((cell *)store, s.m * s.n, NULL, 0);
-    return say(answer, answer_len, 0, 0, phase, 0, 0, 0);
+        return say(answer, answer_len, g, s.place, 0, 0, 0);
+    fill_filler((cell *)store, receiver_places(&s), NULL, 0);
+    return say(answer, answer_len, 0, 0, phase, 0, 0);
 }
 
-/* Sends what stands in the store: cell p from the row p mod M back. */
-static void send(const struct plan *s, const struct segment *seg, uint32_t segments, uint32_t row, const uint8_t *store, uint8_t *symbol)
+/* Sends the input symbol: its cells move into the store, and the oldest go onto the line. */
+static void send(const struct plan *s, const struct segment *seg, uint32_t segments, uint16_t *cells, uint8_t *store, uint8_t *symbol)
 {
-    uint16_t cells[CELLS], line[CELLS + 16];
-    if (s->m == 1) {
-        to_ranks((const cell *)store, s->n, line);
-    } else {
-        gather(s, store, row, s->m - 1, cells);
-        to_ranks(cells, s->n, line);
-    }
+    uint16_t line[CELLS + 16];
+    move_sent(s, store, cells);
+    to_ranks(cells, s->n, line);
     place(s, seg, segments, line, (cell *)symbol);
 }
 
-static uint32_t sent(const struct plan *s, uint32_t phase, uint32_t row, uint8_t *answer, size_t answer_len)
-{
-    return say(answer, answer_len, 0, 0, (phase + 1) & 127, row + 1 == s->m ? 0 : row + 1, 0, 0);
-}
-
-uint32_t best_emit(const uint8_t *plan, size_t plan_len, uint32_t phase, uint32_t row, uint8_t *store, size_t store_len,
-                   const uint8_t *data, size_t data_len, uint8_t *symbol, size_t symbol_len, uint8_t *answer, size_t answer_len)
+uint32_t best_emit(const uint8_t *plan, size_t plan_len, uint32_t phase, uint8_t *store, size_t store_len, const uint8_t *data,
+                   size_t data_len, uint8_t *symbol, size_t symbol_len, uint8_t *answer, size_t answer_len)
 {
     struct plan s;
     struct segment seg[SEGMENTS];
-    uint16_t holder[CELLS], over = 0;
+    uint16_t holder[CELLS], cells[CELLS], over = 0;
     const cell *x = (const cell *)data;
     if (answer_len < ANSWER || (store_len | data_len | symbol_len) % 2 != 0)
-        return say(answer, answer_len, 21, 0, phase, row, 0, 0);
-    uint32_t g = begin(&s, plan, plan_len, phase, row, 0, store_len);
-    if (g == 0 && symbol_len != 2 * SUBCARRIERS)
+        return say(answer, answer_len, 21, 0, phase, 0, 0);
+    uint32_t g = begin(&s, plan, plan_len, phase, 0);
+    if (g == 0 && (store_len / 2 < emitter_places(&s) || symbol_len != 2 * SUBCARRIERS))
         g = refuse(&s, 17, 0);
     if (g != 0)
-        return say(answer, answer_len, g, s.place, phase, row, 0, 0);
+        return say(answer, answer_len, g, s.place, phase, 0, 0);
     uint32_t segments = find_segments(&s, seg), holders = find_holders(&s, seg, segments, phase, holder);
     if (data_len / 2 != s.n - holders)
-        return say(answer, answer_len, 18, 0, phase, row, 0, 0);
+        return say(answer, answer_len, 18, 0, phase, 0, 0);
     for (uint32_t i = 0; i < s.n - holders; i++)
         over |= x[i];
     if (over & NO_DATA) {
         uint32_t i = 0;
         while (!(x[i] & NO_DATA))
             i++;
-        return say(answer, answer_len, 19, i, phase, row, 0, 0);
+        return say(answer, answer_len, 19, i, phase, 0, 0);
     }
-    fill_data((cell *)store + (size_t)row * s.n, s.n, holder, holders, x);
-    send(&s, seg, segments, row, store, symbol);
-    return sent(&s, phase, row, answer, answer_len);
+    fill_data(cells, s.n, holder, holders, x);
+    send(&s, seg, segments, cells, store, symbol);
+    return say(answer, answer_len, 0, 0, (phase + 1) & 127, 0, 0);
 }
 
-uint32_t best_flush(const uint8_t *plan, size_t plan_len, uint32_t phase, uint32_t row, uint8_t *store, size_t store_len,
-                    uint8_t *symbol, size_t symbol_len, uint8_t *answer, size_t answer_len)
+uint32_t best_flush(const uint8_t *plan, size_t plan_len, uint32_t phase, uint8_t *store, size_t store_len, uint8_t *symbol,
+                    size_t symbol_len, uint8_t *answer, size_t answer_len)
 {
     struct plan s;
     struct segment seg[SEGMENTS];
-    uint16_t holder[CELLS];
+    uint16_t holder[CELLS], cells[CELLS];
     if (answer_len < ANSWER || (store_len | symbol_len) % 2 != 0)
-        return say(answer, answer_len, 21, 0, phase, row, 0, 0);
-    uint32_t g = begin(&s, plan, plan_len, phase, row, 0, store_len);
-    if (g == 0 && symbol_len != 2 * SUBCARRIERS)
+        return say(answer, answer_len, 21, 0, phase, 0, 0);
+    uint32_t g = begin(&s, plan, plan_len, phase, 0);
+    if (g == 0 && (store_len / 2 < emitter_places(&s) || symbol_len != 2 * SUBCARRIERS))
         g = refuse(&s, 17, 0);
     if (g != 0)
-        return say(answer, answer_len, g, s.place, phase, row, 0, 0);
+        return say(answer, answer_len, g, s.place, phase, 0, 0);
     uint32_t segments = find_segments(&s, seg), holders = find_holders(&s, seg, segments, phase, holder);
-    fill_filler((cell *)store + (size_t)row * s.n, s.n, holder, holders);
-    send(&s, seg, segments, row, store, symbol);
-    return sent(&s, phase, row, answer, answer_len);
+    fill_filler(cells, s.n, holder, holders);
+    send(&s, seg, segments, cells, store, symbol);
+    return say(answer, answer_len, 0, 0, (phase + 1) & 127, 0, 0);
 }
 
-uint32_t best_receive(const uint8_t *plan, size_t plan_len, uint32_t phase, uint32_t row, uint32_t heard, uint8_t *store,
-                      size_t store_len, const uint8_t *symbol, size_t symbol_len, uint8_t *data, size_t data_len,
-                      uint8_t *answer, size_t answer_len)
+uint32_t best_receive(const uint8_t *plan, size_t plan_len, uint32_t phase, uint32_t heard, uint8_t *store, size_t store_len,
+                      const uint8_t *symbol, size_t symbol_len, uint8_t *data, size_t data_len, uint8_t *answer, size_t answer_len)
 {
     struct plan s;
     struct segment seg[SEGMENTS];
     uint16_t holder[CELLS], cells[CELLS], line[CELLS + 16];
     uint32_t holders = 0, count = 0;
     if (answer_len < ANSWER || (store_len | symbol_len | data_len) % 2 != 0)
-        return say(answer, answer_len, 21, 0, phase, row, heard, 0);
-    uint32_t g = begin(&s, plan, plan_len, phase, row, heard, store_len);
-    if (g == 0 && symbol_len != 2 * SUBCARRIERS)
+        return say(answer, answer_len, 21, 0, phase, heard, 0);
+    uint32_t g = begin(&s, plan, plan_len, phase, heard);
+    if (g == 0 && (store_len / 2 < receiver_places(&s) || symbol_len != 2 * SUBCARRIERS))
         g = refuse(&s, 17, 0);
     if (g != 0)
-        return say(answer, answer_len, g, s.place, phase, row, heard, 0);
-    uint32_t segments = find_segments(&s, seg), next = row + 1 == s.m ? 0 : row + 1, warming = heard + 1 < s.m;
+        return say(answer, answer_len, g, s.place, phase, heard, 0);
+    uint32_t segments = find_segments(&s, seg), warming = heard + 1 < s.m;
     if (!warming) {
         holders = find_holders(&s, seg, segments, (phase + 129 - s.m) & 127, holder);
         count = s.n - holders;
         if (data_len / 2 < count)
-            return say(answer, answer_len, 17, 0, phase, row, heard, 0);
+            return say(answer, answer_len, 17, 0, phase, heard, 0);
     }
     uint32_t others = fetch(seg, segments, (const cell *)symbol, line);
     if (!all_right(&s, phase, (const cell *)symbol, line, others))
-        return say(answer, answer_len, 20, first_wrong(&s, phase, (const cell *)symbol), phase, row, heard, 0);
-    to_cells(line, s.n, (cell *)store + (size_t)row * s.n);
-    if (s.m == 1) {
-        take_data((cell *)data, (const cell *)store, s.n, holder, holders);
-    } else if (!warming) {
-        gather(&s, store, next, 1, cells);
+        return say(answer, answer_len, 20, first_wrong(&s, phase, (const cell *)symbol), phase, heard, 0);
+    to_cells(line, s.n, cells);
+    move_received(&s, store, cells);
+    if (!warming)
         take_data((cell *)data, cells, s.n, holder, holders);
-    }
-    return say(answer, answer_len, 0, 0, (phase + 1) & 127, next, heard + warming, count);
+    return say(answer, answer_len, 0, 0, (phase + 1) & 127, heard + warming, count);
 }

@@ -3,6 +3,9 @@
 # medians in microseconds a call with the spread of the ratios. A benchmark, not a test: it fails only if the implementations differ.
 #
 #     bench/run.sh [ROUNDS]
+#
+# LIBRARY=FILE.a takes a library that is built already. RING=FILE.a sets a library of version 2, with M rows of N_I cells in a store, beside
+# the others in the same run: its ratio is that of the store of today to the ring.
 set -eu
 cd "$(dirname "$0")/.."
 rounds=${1:-300}
@@ -36,6 +39,17 @@ if [ -x "$clang" ] && table best_clang best.c best_ "$clang" -isystem "$(gcc -pr
     with=-DWITH_CLANG
 else
     echo "no clang: best and plain C are gcc's alone"
+fi
+if [ -n "${RING:-}" ]; then
+    renamed=$(for call in judge role data_count fresh_emitter fresh_receiver emit flush receive; do
+        echo "--redefine-sym headend_$call=ring_$call"
+    done)
+    objcopy $renamed "$RING" $out/libring.a
+    gcc $flags -Wall -Wextra -Ibench -c bench/ring.c -o $out/calls.o
+    gcc -r -nostdlib $out/calls.o -Wl,--whole-archive $out/libring.a -o $out/ring.o
+    objcopy --keep-global-symbol=ring $out/ring.o
+    objects="$objects $out/ring.o"
+    with="$with -DWITH_RING"
 fi
 gcc -O2 -Wall -Wextra -Ibench $with -DFLAGS="\"$flags\"" -c bench/bench.c -o $out/bench.o
 reversed=$(for o in $objects; do echo "$o"; done | tac | tr '\n' ' ')

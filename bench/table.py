@@ -1,7 +1,7 @@
 #!/usr/bin/env python3
 """Makes one table of several runs of the benchmark: of each line the median over the runs and, of the library and of
 best C, the lowest run, in microseconds a call; and how far the ratios spread. Of best and of plain C the compiler that did
-better in a run is taken.
+better in a run is taken. Where a library of version 2 ran beside them, its time and the ratio to it stand in columns of their own.
 
     python3 bench/table.py RUN.tsv...
 """
@@ -31,12 +31,22 @@ def better(numbers, kind):
     return min((time, name[len(kind) + 1:]) for name, time in numbers.items() if name.startswith(kind))
 
 
+def to_ring(numbers):
+    """The columns of a library of version 2, if it ran."""
+    if 'ring' not in numbers[0]:
+        return ''
+    ratios = [n['library'] / n['ring'] for n in numbers]
+    mid = statistics.median
+    return '%8.2f %9.2f %-13s ' % (mid(n['ring'] for n in numbers), mid(ratios), '%.2f..%.2f' % (min(ratios), max(ratios)))
+
+
 def main():
     runs = [read(path) for path in sys.argv[1:]]
     print('\n'.join(runs[0][0]))
-    form = '%-16s %-19s %8s %8s %8s %8s %-6s %8s %-6s %9s %-13s %9s %-13s %s'
+    ring = any('ring' in numbers for numbers in runs[0][1].values())
+    form = '%-16s %-19s %8s %8s %8s %8s %-6s %8s %-6s %9s %-13s %9s %-13s %s%s'
     print(form % ('plan', 'call', 'library', 'lowest', 'best C', 'lowest', 'by', 'plain C', 'by', 'lib/best', 'spread', 'lib/plain',
-                  'spread', 'real time'))
+                  'spread', '%8s %9s %-13s ' % ('ring', 'lib/ring', 'spread') if ring else '', 'real time'))
     for line in runs[0][1]:
         of = [lines[line] for _, lines in runs]
         library = [n['library'] for n in of]
@@ -48,7 +58,7 @@ def main():
             *line, '%.2f' % mid(library), '%.2f' % min(library), '%.2f' % mid(b for b, _ in best), '%.2f' % min(best)[0], best[0][1],
             '%.2f' % mid(b for b, _ in plain), plain[0][1],
             '%.2f' % mid(to_best), '%.2f..%.2f' % (min(to_best), max(to_best)),
-            '%.2f' % mid(to_plain), '%.2f..%.2f' % (min(to_plain), max(to_plain)),
+            '%.2f' % mid(to_plain), '%.2f..%.2f' % (min(to_plain), max(to_plain)), to_ring(of),
             '' if line[1] == 'judge' else 'ok' if mid(library) <= REAL_TIME else 'over'))
 
 

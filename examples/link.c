@@ -17,7 +17,7 @@ enum { SYMBOLS = 10, START = 125 };
 
 /* One end of the line: the state of its next step, and its store. An emitter has no use for heard. */
 struct end {
-    uint32_t phase, row, heard;
+    uint32_t phase, heard;
     uint8_t *store;
     size_t store_len;
 };
@@ -50,7 +50,6 @@ static void must(const char *call, uint32_t refused, const uint8_t *answer)
 static void next_state(struct end *e, const uint8_t *answer)
 {
     e->phase = headend_number(answer, HEADEND_PHASE);
-    e->row = headend_number(answer, HEADEND_ROW);
     e->heard = headend_number(answer, HEADEND_HEARD);
 }
 
@@ -70,11 +69,12 @@ static void read_plan(struct plan *p, const char *path)
     printf("%s: accepted, N_I %u, depth %u\n", path, (unsigned)p->cells, (unsigned)p->depth);
 }
 
-static void make_store(const struct plan *p, struct end *e)
+/* Each end has a store of a length of its own; at depth 1 it has no bytes and may be NULL. */
+static void make_store(struct end *e, size_t store_len)
 {
-    e->store_len = (size_t)2 * p->depth * p->cells;
-    e->store = malloc(e->store_len);
-    if (e->store == NULL) {
+    e->store_len = store_len;
+    e->store = malloc(store_len);
+    if (e->store == NULL && store_len > 0) {
         perror("store");
         exit(1);
     }
@@ -83,15 +83,15 @@ static void make_store(const struct plan *p, struct end *e)
 static void start(const struct plan *p, struct end *emitter, struct end *receiver)
 {
     uint8_t answer[HEADEND_ANSWER_BYTES];
-    make_store(p, emitter);
-    make_store(p, receiver);
+    make_store(emitter, headend_emitter_store_bytes(p->cells, p->depth));
+    make_store(receiver, headend_receiver_store_bytes(p->cells, p->depth));
     must("fresh_emitter",
          headend_fresh_emitter(p->bytes, p->len, START, emitter->store, emitter->store_len, answer, sizeof answer), answer);
     next_state(emitter, answer);
     must("fresh_receiver",
          headend_fresh_receiver(p->bytes, p->len, START, receiver->store, receiver->store_len, answer, sizeof answer), answer);
     next_state(receiver, answer);
-    printf("both ends started at phase %d, with stores of %zu bytes\n", START, emitter->store_len);
+    printf("both ends started at phase %d, with stores of %zu and %zu bytes\n", START, emitter->store_len, receiver->store_len);
 }
 
 /* Makes the data of symbol t: as many cells as the emitter takes at its phase. */
@@ -107,7 +107,7 @@ static void make_data(const struct plan *p, const struct end *e, struct traffic 
 
 static uint32_t emit(const struct plan *p, struct end *e, struct traffic *t, const uint8_t *data, size_t data_len, uint8_t *answer)
 {
-    return headend_emit(p->bytes, p->len, e->phase, e->row, e->store, e->store_len, data, data_len, t->line, sizeof t->line, answer,
+    return headend_emit(p->bytes, p->len, e->phase, e->store, e->store_len, data, data_len, t->line, sizeof t->line, answer,
                         HEADEND_ANSWER_BYTES);
 }
 
@@ -119,7 +119,7 @@ static void send(const struct plan *p, struct end *e, struct traffic *t, uint32_
         must("emit", emit(p, e, t, t->data[symbol], t->data_len[symbol], answer), answer);
     } else {
         must("flush",
-             headend_flush(p->bytes, p->len, e->phase, e->row, e->store, e->store_len, t->line, sizeof t->line, answer, sizeof answer),
+             headend_flush(p->bytes, p->len, e->phase, e->store, e->store_len, t->line, sizeof t->line, answer, sizeof answer),
              answer);
     }
     next_state(e, answer);
@@ -130,7 +130,7 @@ static void hear(const struct plan *p, struct end *e, struct traffic *t)
 {
     uint8_t answer[HEADEND_ANSWER_BYTES];
     must("receive",
-         headend_receive(p->bytes, p->len, e->phase, e->row, e->heard, e->store, e->store_len, t->line, sizeof t->line, t->received,
+         headend_receive(p->bytes, p->len, e->phase, e->heard, e->store, e->store_len, t->line, sizeof t->line, t->received,
                          sizeof t->received, answer, sizeof answer),
          answer);
     next_state(e, answer);
@@ -149,9 +149,8 @@ static void show_refusal(const struct plan *p, struct end *e, struct traffic *t)
 {
     uint8_t answer[HEADEND_ANSWER_BYTES];
     uint32_t refused = emit(p, e, t, t->data[0], 2, answer);
-    printf("one cell of data alone: refused by %u at %u, the state still phase %u, row %u\n", (unsigned)refused,
-           (unsigned)headend_number(answer, HEADEND_PLACE), (unsigned)headend_number(answer, HEADEND_PHASE),
-           (unsigned)headend_number(answer, HEADEND_ROW));
+    printf("one cell of data alone: refused by %u at %u, the state still phase %u\n", (unsigned)refused,
+           (unsigned)headend_number(answer, HEADEND_PLACE), (unsigned)headend_number(answer, HEADEND_PHASE));
     if (refused != HEADEND_REFUSED_DATA_COUNT)
         exit(1);
 }

@@ -27,7 +27,7 @@ struct plan {
 
 /* The state of the next step, and the store. An emitter has no use for heard. */
 struct end {
-    uint32_t phase, row, heard;
+    uint32_t phase, heard;
     uint8_t *store;
     size_t store_len;
 };
@@ -57,7 +57,6 @@ static void must(const char *call, uint32_t refused, const uint8_t *answer)
 static void next_state(struct end *e, const uint8_t *answer)
 {
     e->phase = headend_number(answer, HEADEND_PHASE);
-    e->row = headend_number(answer, HEADEND_ROW);
     e->heard = headend_number(answer, HEADEND_HEARD);
 }
 
@@ -109,11 +108,12 @@ static void read_plan(struct plan *p, const char *path)
 
 /* --- starts --- */
 
-static void make_store(const struct plan *p, struct end *e)
+/* Each end has a store of a length of its own; at depth 1 it has no bytes and may be NULL. */
+static void make_store(struct end *e, size_t store_len)
 {
-    e->store_len = (size_t)2 * p->depth * p->cells;
-    e->store = malloc(e->store_len);
-    if (e->store == NULL) {
+    e->store_len = store_len;
+    e->store = malloc(store_len);
+    if (e->store == NULL && store_len > 0) {
         perror("store");
         exit(1);
     }
@@ -155,12 +155,12 @@ static void send(const struct plan *p, struct trunk *t, struct numbered *f)
         for (uint32_t i = 0; i < count; i++)
             headend_put_cell(data, i, data_cell(t, t->sent, i));
         must("emit",
-             headend_emit(p->bytes, p->len, e->phase, e->row, e->store, e->store_len, data, (size_t)2 * count, f->cells,
+             headend_emit(p->bytes, p->len, e->phase, e->store, e->store_len, data, (size_t)2 * count, f->cells,
                           sizeof f->cells, answer, sizeof answer),
              answer);
     } else {
         must("flush",
-             headend_flush(p->bytes, p->len, e->phase, e->row, e->store, e->store_len, f->cells, sizeof f->cells, answer,
+             headend_flush(p->bytes, p->len, e->phase, e->store, e->store_len, f->cells, sizeof f->cells, answer,
                            sizeof answer),
              answer);
     }
@@ -239,7 +239,7 @@ static void compare(const struct plan *p, struct trunk *t, uint32_t number, cons
 static uint32_t receive(const struct plan *p, struct trunk *t, const struct numbered *f, uint8_t *data, uint8_t *answer)
 {
     struct end *e = &t->receiver;
-    return headend_receive(p->bytes, p->len, e->phase, e->row, e->heard, e->store, e->store_len, f->cells, sizeof f->cells, data,
+    return headend_receive(p->bytes, p->len, e->phase, e->heard, e->store, e->store_len, f->cells, sizeof f->cells, data,
                            HEADEND_DATA_BYTES_MAX, answer, HEADEND_ANSWER_BYTES);
 }
 
@@ -303,12 +303,12 @@ int main(int argc, char **argv)
     read_plan(&plan, argv[1]);
     for (uint32_t i = 0; i < TRUNKS; i++) {
         trunks[i].name = i;
-        make_store(&plan, &trunks[i].emitter);
-        make_store(&plan, &trunks[i].receiver);
+        make_store(&trunks[i].emitter, headend_emitter_store_bytes(plan.cells, plan.depth));
+        make_store(&trunks[i].receiver, headend_receiver_store_bytes(plan.cells, plan.depth));
         start(&plan, &trunks[i], APART * i);
     }
-    printf("%d trunks started at phases 0, %d up to %d, with stores of %zu bytes\n", TRUNKS, APART, APART * (TRUNKS - 1),
-           trunks[0].emitter.store_len);
+    printf("%d trunks started at phases 0, %d up to %d, with stores of %zu and %zu bytes\n", TRUNKS, APART, APART * (TRUNKS - 1),
+           trunks[0].emitter.store_len, trunks[0].receiver.store_len);
     for (uint32_t n = 0; n < plan.symbols + plan.depth - 1; n++)
         for (int i = 0; i < TRUNKS; i++)
             step(&plan, &trunks[i]);

@@ -1,7 +1,7 @@
 /* The head end's symbol path for a C host: libheadend.a, built by `rt staticlib headend`, for x86-64. docs/C-HOST.md tells more.
  *
  * Every call returns the number of the ground that refuses it, 0 if none, and writes the rest of its answer into the first
- * HEADEND_ANSWER_BYTES bytes of `answer`, five numbers of four bytes each, high byte first (HEADEND_PLACE and so on say where).
+ * HEADEND_ANSWER_BYTES bytes of `answer`, four numbers of four bytes each, high byte first (HEADEND_PLACE and so on say where).
  * A refused call writes its answer and changes no store, symbol or data. Its answer gives the state back as it was passed in (0 for a
  * refused fresh start, which was passed none). With a shorter `answer` a call returns 21 and writes nothing.
  *
@@ -21,9 +21,9 @@ extern "C" {
 #endif
 
 /* Grows by one whenever a call takes, answers or writes something else for the same bytes, or a name below has another value or goes.
- * A name or a helper that is added does not count. 1 was the interface as it came, 2 counts the widths; headers from before this name
- * are of 1 or of 2. */
-#define HEADEND_VERSION 2
+ * A name or a helper that is added does not count. 1 was the interface as it came, 2 counts the widths, 3 keeps one cell in a store for
+ * each symbol of delay and has no row; headers from before this name are of 1 or of 2. */
+#define HEADEND_VERSION 3
 
 /* The number that a call returns is not to be ignored: gcc and clang warn. */
 #ifdef __GNUC__
@@ -33,12 +33,11 @@ extern "C" {
 #endif
 
 /* The answer buffer: its least length, and where each number of four bytes begins. What a call does not give is 0. */
-#define HEADEND_ANSWER_BYTES 20
+#define HEADEND_ANSWER_BYTES 16
 #define HEADEND_PLACE 0  /* the place of a refusal */
 #define HEADEND_PHASE 4  /* the state of the next step: phase, */
-#define HEADEND_ROW 8    /* row, */
-#define HEADEND_HEARD 12 /* and of a receiver the symbols heard, up to M - 1 */
-#define HEADEND_VALUE 16 /* N_I, N_D, the number of data cells handed out, or a role */
+#define HEADEND_HEARD 8  /* and of a receiver the symbols heard, up to M - 1 */
+#define HEADEND_VALUE 12 /* N_I, N_D, the number of data cells handed out, or a role */
 
 /* The roles of a subcarrier, in the order in which the first that applies is taken. */
 #define HEADEND_EXCLUDED 1
@@ -55,14 +54,20 @@ extern "C" {
 #define HEADEND_CELL_CONTINUOUS 0x8003u
 #define HEADEND_CELL_PLC 0x8004u
 
-#define HEADEND_SUBCARRIERS 4096u        /* 0 to 4095 */
-#define HEADEND_PHASES 128u              /* 0 to 127 */
-#define HEADEND_DEPTH_MAX 32u            /* M is 1 to 32 */
-#define HEADEND_PLAN_BYTES_MAX 4096u     /* a plan: 8 bytes a record, up to 512 records */
-#define HEADEND_SYMBOL_BYTES 8192u       /* a symbol: 4,096 cells */
-#define HEADEND_STORE_BYTES_MAX 239680u  /* the largest store: 32 rows of 3,745 cells; a plan needs 2 * M * N_I bytes */
-#define HEADEND_DATA_BYTES_MAX 7490u     /* more data cells than N_I no symbol has */
-#define HEADEND_STACK_BYTES 131072u      /* some 73,000 were measured */
+#define HEADEND_SUBCARRIERS 4096u    /* 0 to 4095 */
+#define HEADEND_PHASES 128u          /* 0 to 127 */
+#define HEADEND_DEPTH_MAX 32u        /* M is 1 to 32 */
+#define HEADEND_PLAN_BYTES_MAX 4096u /* a plan: 8 bytes a record, up to 512 records */
+#define HEADEND_SYMBOL_BYTES 8192u   /* a symbol: 4,096 cells */
+#define HEADEND_DATA_BYTES_MAX 7490u /* more data cells than N_I no symbol has */
+#define HEADEND_STACK_BYTES 131072u  /* some 73,000 were measured */
+
+/* The largest stores, those of N_I 3745 and M 32: 58,032 and 58,063 cells. A plan needs E cells for an emitter's store, the sum of p mod M
+ * over the N_I cells p: E = (N_I / M) * (M * (M - 1) / 2) + r * (r - 1) / 2, where r = N_I mod M and N_I / M is rounded down; and
+ * N_I * (M - 1) - E cells for a receiver's, the sum of M - 1 - (p mod M). headend_emitter_store_bytes and headend_receiver_store_bytes
+ * give the bytes. */
+#define HEADEND_EMITTER_STORE_BYTES_MAX 116064u
+#define HEADEND_RECEIVER_STORE_BYTES_MAX 116126u
 
 /* What a call returns: 0, or the ground that refuses it, in the words of the rules, with its place in brackets, 0 where none is named.
  * A call tries 21, then 1 to 15, along the chain 2 to 5 for each record before the next is read, then those of 16 to 20 that speak of
@@ -99,10 +104,10 @@ extern "C" {
 #define HEADEND_REFUSED_WINDOW_OF_20 14u
 /* N_I exceeds 3745. */
 #define HEADEND_REFUSED_RANKS 15u
-/* A phase, row, heard or subcarrier given is out of its range. */
+/* A phase, heard or subcarrier given is out of its range. */
 #define HEADEND_REFUSED_OUT_OF_RANGE 16u
-/* The store is shorter than M * N_I, a symbol is not 4,096 cells, or, where the answer would not be warming, the data buffer is shorter
- * than the count. */
+/* An emitter's store is shorter than the sum of p mod M over the N_I cells p, a receiver's than that of M - 1 - (p mod M), a symbol is
+ * not 4,096 cells, or, where the answer would not be warming, the data buffer is shorter than the count. */
 #define HEADEND_REFUSED_BUFFER_LENGTH 17u
 /* The emitter is given other than N_D data cells. */
 #define HEADEND_REFUSED_DATA_COUNT 18u
@@ -127,36 +132,36 @@ uint32_t headend_role(const uint8_t *plan, size_t plan_len, uint32_t subcarrier,
 HEADEND_NOT_IGNORED
 uint32_t headend_data_count(const uint8_t *plan, size_t plan_len, uint32_t phase, uint8_t *answer, size_t answer_len);
 
-/* Fills a store as a fresh emitter's whose first step is at `phase`. Phase and row: the state of that step. Bytes of the store past
- * 2 * M * N_I are untouched. Refuses by 1 to 17 and 21. */
+/* Fills a store as a fresh emitter's whose first step is at `phase`. Phase: the state of that step. Bytes of the store past
+ * headend_emitter_store_bytes are untouched. Refuses by 1 to 17 and 21. */
 HEADEND_NOT_IGNORED
 uint32_t headend_fresh_emitter(const uint8_t *plan, size_t plan_len, uint32_t phase, uint8_t *store, size_t store_len,
                                uint8_t *answer, size_t answer_len);
 
-/* Fills a store as a fresh receiver's whose first symbol comes at `phase`. Phase, row and heard: the state of that step. Bytes of the
- * store past 2 * M * N_I are untouched. Refuses by 1 to 17 and 21. */
+/* Fills a store as a fresh receiver's whose first symbol comes at `phase`. Phase and heard: the state of that step. Bytes of the store
+ * past headend_receiver_store_bytes are untouched. Refuses by 1 to 17 and 21. */
 HEADEND_NOT_IGNORED
 uint32_t headend_fresh_receiver(const uint8_t *plan, size_t plan_len, uint32_t phase, uint8_t *store, size_t store_len,
                                 uint8_t *answer, size_t answer_len);
 
-/* Emits one symbol: takes N_D data cells (each 0 to 16383), writes the symbol on the line, and the store. Phase and row: the next state.
+/* Emits one symbol: takes N_D data cells (each 0 to 16383), writes the symbol on the line, and the store. Phase: the next state.
  * `data` is the whole input symbol and `symbol` exactly 8,192 bytes. Refuses by 1 to 19 and 21. */
 HEADEND_NOT_IGNORED
-uint32_t headend_emit(const uint8_t *plan, size_t plan_len, uint32_t phase, uint32_t row, uint8_t *store, size_t store_len,
-                      const uint8_t *data, size_t data_len, uint8_t *symbol, size_t symbol_len, uint8_t *answer, size_t answer_len);
+uint32_t headend_emit(const uint8_t *plan, size_t plan_len, uint32_t phase, uint8_t *store, size_t store_len, const uint8_t *data,
+                      size_t data_len, uint8_t *symbol, size_t symbol_len, uint8_t *answer, size_t answer_len);
 
 /* Emits one symbol of filler. M - 1 flushes after the last data push all of it out. Refuses by 1 to 17 and 21. */
 HEADEND_NOT_IGNORED
-uint32_t headend_flush(const uint8_t *plan, size_t plan_len, uint32_t phase, uint32_t row, uint8_t *store, size_t store_len,
-                       uint8_t *symbol, size_t symbol_len, uint8_t *answer, size_t answer_len);
+uint32_t headend_flush(const uint8_t *plan, size_t plan_len, uint32_t phase, uint8_t *store, size_t store_len, uint8_t *symbol,
+                       size_t symbol_len, uint8_t *answer, size_t answer_len);
 
 /* Receives one symbol. Value: how many cells of data (or filler) were written to the start of `data`, 0 only while warming, the first
- * M - 1 symbols after a fresh start; bytes past them are untouched. Phase, row and heard: the next state. Refuses by 1 to 17, 20 and 21.
+ * M - 1 symbols after a fresh start; bytes past them are untouched. Phase and heard: the next state. Refuses by 1 to 17, 20 and 21.
  * A symbol refused by 20 counts as lost unless it is mended and received after all (docs/C-HOST.md, "After a refusal"). */
 HEADEND_NOT_IGNORED
-uint32_t headend_receive(const uint8_t *plan, size_t plan_len, uint32_t phase, uint32_t row, uint32_t heard, uint8_t *store,
-                         size_t store_len, const uint8_t *symbol, size_t symbol_len, uint8_t *data, size_t data_len,
-                         uint8_t *answer, size_t answer_len);
+uint32_t headend_receive(const uint8_t *plan, size_t plan_len, uint32_t phase, uint32_t heard, uint8_t *store, size_t store_len,
+                         const uint8_t *symbol, size_t symbol_len, uint8_t *data, size_t data_len, uint8_t *answer,
+                         size_t answer_len);
 
 /* --- helpers: they are no part of the library and decide nothing --- */
 
@@ -189,6 +194,19 @@ static inline uint32_t headend_lowest_plc(const uint8_t *plan)
 static inline uint32_t headend_depth(const uint8_t *plan)
 {
     return headend_cell(plan, 3);
+}
+
+/* The bytes that an emitter's store has at least, of an accepted plan with N_I `cells` and depth M: p mod M cells for each cell p. */
+static inline size_t headend_emitter_store_bytes(uint32_t cells, uint32_t depth)
+{
+    size_t groups = cells / depth, rest = cells % depth;
+    return groups * depth * (depth - 1) + rest * rest - rest;
+}
+
+/* The bytes that a receiver's store has at least: M - 1 - (p mod M) cells for each cell p. */
+static inline size_t headend_receiver_store_bytes(uint32_t cells, uint32_t depth)
+{
+    return (size_t)2 * cells * (depth - 1) - headend_emitter_store_bytes(cells, depth);
 }
 
 /* What ground 20 takes at a role: its mark, and for a data role filler. */

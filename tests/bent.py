@@ -18,7 +18,7 @@ from pathlib import Path
 sys.dont_write_bytecode = True
 
 import plans
-from host import Cases, Link, some_bytes
+from host import ANSWER, Cases, Link, some_bytes
 from stored import ROOT
 
 
@@ -35,19 +35,19 @@ def few(cases):
     link.hear()                                                         # 5
     link.send()                                                         # 6
     count = cases.model.count(link.at, 127)
-    link.receive(data=some_bytes(rng, count, 5), answer=bytes(20))      # 7
-    link.receive(data=b'\0', answer=bytes(19))                          # 8
+    link.receive(data=some_bytes(rng, count, 5), answer=bytes(ANSWER))  # 7
+    link.receive(data=b'\0', answer=bytes(ANSWER - 1))                  # 8
     return cases
 
 
 # (which of the calls, the buffer or None for the number returned, the byte, what is wrong)
 BENT = ((0, None, 0, 'a refusal by another number'), (1, None, 0, 'a refusal of a good plan'),
-        (0, 'answer', 3, 'another place'), (1, 'answer', 19, 'another N_I'),
-        (1, 'answer', 20, 'a byte past the answer'), (4, 'answer', 7, 'another phase'),
-        (4, 'answer', 11, 'another row'), (5, 'answer', 15, 'another number heard'),
-        (7, 'answer', 18, 'another count'), (8, 'answer', 0, 'a short answer written'),
-        (2, 'store', 851, 'another fresh cell'), (2, 'store', -1, 'a byte past the store'),
-        (3, 'store', 0, 'another fresh cell of a receiver'), (6, 'store', 850, 'another stored cell'),
+        (0, 'answer', 3, 'another place'), (1, 'answer', 15, 'another N_I'),
+        (1, 'answer', 16, 'a byte past the answer'), (4, 'answer', 7, 'another phase'),
+        (4, 'answer', 11, 'a number heard of an emitter'), (5, 'answer', 11, 'another number heard'),
+        (7, 'answer', 14, 'another count'), (8, 'answer', 0, 'a short answer written'),
+        (2, 'store', 423, 'another fresh cell'), (2, 'store', -1, 'a byte past the store'),
+        (3, 'store', 0, 'another fresh cell of a receiver'), (6, 'store', 422, 'another stored cell'),
         (6, 'symbol', 0, 'another first cell on the line'),
         (6, 'symbol', -1, 'another last cell on the line'),
         (7, 'data', 1, 'another cell handed out'), (7, 'data', -1, 'a byte past the data'),
@@ -91,15 +91,16 @@ WRONG = (
     ('return (unsigned)cells[2 * i] << 8 | cells[2 * i + 1]',
      'return (unsigned)cells[2 * i + 1] << 8 | cells[2 * i]'),
     ('at[3] = (uint8_t)number', 'at[3] = at[4] = (uint8_t)number'),
-    ('ANSWER = 20', 'ANSWER = 19'),
-    ('if (answer_len >= ANSWER)', 'if (answer_len >= 19)'),
-    ('put_number(answer + 12, s.heard)', 'put_number(answer + 12, r.number ? 0 : s.heard)'),
-    # bytes outside of a buffer: read, behind and before; the store past its rows, written
+    ('ANSWER = 16', 'ANSWER = 15'),
+    ('if (answer_len >= ANSWER)', 'if (answer_len >= 15)'),
+    ('put_number(answer + 8, s.heard)', 'put_number(answer + 8, r.number ? 0 : s.heard)'),
+    ('put_number(answer + 12, value)', 'put_number(answer + 8, value)'),
+    # bytes outside of a buffer: read, behind and before; the store past its places, written
     ('struct refusal r = read_chain(p, plan, length);',
      'struct refusal r = read_chain(p, plan + *(volatile const uint8_t *)(plan + length) * 0, length);'),
     ('struct refusal r = read_chain(p, plan, length);',
      'struct refusal r = read_chain(p, plan + *(volatile const uint8_t *)(plan - 1) * 0, length);'),
-    ('i < (size_t)p.m * (size_t)p.n', 'i < store_len / 2'),
+    ('size_t all = store_cells(&p, receiver_places);', 'size_t all = store_len / 2;'),
     # NULL for an empty buffer, not expected
     ('    if (length < RECORD ||', '    if (plan == NULL)\n        return refuse(2, 0);\n    if (length < RECORD ||'),
     ('int warming = heard < ', 'int warming = data != NULL && heard < '),
@@ -107,6 +108,10 @@ WRONG = (
     # grounds
     ('|| c % 2 != 0', ''),
     ('|| s.heard >= (uint32_t)p->m', ''),
+    ('store_len / 2 < store_cells(p, of)', 'store_len / 2 + 1 < store_cells(p, of)'),
+    ('store_len / 2 < store_cells(p, of)', 'store_len / 2 < store_cells(p, emitter_places)'),
+    ('store_len / 2 < store_cells(p, of)', 'store_len / 2 < store_cells(p, receiver_places)'),
+    ('store_len / 2 < store_cells(p, of)', 'store_len / 2 < (size_t)p->m * (size_t)p->n'),
     ('if (!warming && data_len / 2 <', 'if (!warming && data_len / 2 + 1 <'),
     ('if (!warming && data_len / 2 <', 'if (data_len / 2 <'),
     ('for (int k = 0; k < SUBCARRIERS; k++) {\n        int want', 'for (int k = 1; k < SUBCARRIERS; k++) {\n        int want'),
@@ -115,25 +120,36 @@ WRONG = (
     ('return b - a + 1;', 'return b - a;'),
     # a refused step that writes
     ('r = check_data(&p, (int)phase, data, data_len);',
-     '{ r = check_data(&p, (int)phase, data, data_len); if (r.number == 19) write_row(&p, row, (int)phase, NULL, store); }'),
+     '{ r = check_data(&p, (int)phase, data, data_len); if (r.number == 19) move(store, 0, 1, 0); }'),
     # the shortcuts that the paper names
     ('p->carrier[cell], (phase + cell % p->m) % PHASES', 'p->carrier[cell], phase'),
-    ('s.row = (s.row + 1) %', 's.row = s.phase %'),
     ('(k - (p->l + 8) - phase)', '(k - phase)'),
     # the interleavers
     ('<< (6 - bit)', '<< bit'),
-    ('place(p, s.row, cell % p->m, cell)', 'place(p, s.row, 0, cell)'),
+    ('return cell % p->m;', 'return p->m - 1 - cell % p->m;'),
+    ('return p->m - 1 - cell % p->m;', 'return cell % p->m;'),
     ('heard < (uint32_t)p.m - 1', 'heard + 2 < (uint32_t)p.m'),
-    ('write_row(&p, (uint32_t)(p.m - back), ((int)phase - back', 'write_row(&p, (uint32_t)(p.m - back), ((int)phase + back'),
+    # the store: the newest goes, or stands first; a place is not moved, or not written; a fresh one
+    ('unsigned oldest = get(store, first);', 'unsigned oldest = get(store, last);'),
+    ('for (size_t i = first; i < last; i++)', 'for (size_t i = first; i + 1 < last; i++)'),
+    ('put(store, last, cell);', 'put(store, first, cell);'),
+    ('put(store, last, cell);', ''),
+    ('((int)phase - back + PHASES) % PHASES, NULL, NULL', '((int)phase + back) % PHASES, NULL, NULL'),
+    ('for (int back = emitter_places(&p, cell); back > 0; back--)', 'for (int back = 1; back <= emitter_places(&p, cell); back++)'),
+    ('return data == NULL ? FILLER_MARK', 'return data == NULL ? 0'),
 )
 
 
 # (what stands once in the header, what stands there instead): names, the answer's places, helpers
 WRONG_HEADER = (
-    ('VERSION 2', 'VERSION 3'), ('CELL_FILLER 0x8001u', 'CELL_FILLER 0x8002u'), ('CELL_DATA_MAX 16383u', 'CELL_DATA_MAX 16384u'),
-    ('HEADEND_ROW 8 ', 'HEADEND_ROW 12 '), ('HEADEND_SCATTERED 4', 'HEADEND_SCATTERED 5'),
+    ('VERSION 3', 'VERSION 2'), ('CELL_FILLER 0x8001u', 'CELL_FILLER 0x8002u'), ('CELL_DATA_MAX 16383u', 'CELL_DATA_MAX 16384u'),
+    ('HEADEND_HEARD 8 ', 'HEADEND_HEARD 12 '), ('HEADEND_VALUE 12', 'HEADEND_VALUE 16'), ('HEADEND_SCATTERED 4', 'HEADEND_SCATTERED 5'),
     ('HEADEND_REFUSED_RECORD_KIND 2u', 'HEADEND_REFUSED_RECORD_KIND 3u'), ('BUFFER_BYTES 21u', 'BUFFER_BYTES 20u'),
     ('DEPTH_MAX 32u', 'DEPTH_MAX 31u'), ('DATA_BYTES_MAX 7490u', 'DATA_BYTES_MAX 7488u'),
+    ('EMITTER_STORE_BYTES_MAX 116064u', 'EMITTER_STORE_BYTES_MAX 116126u'),
+    ('RECEIVER_STORE_BYTES_MAX 116126u', 'RECEIVER_STORE_BYTES_MAX 116064u'), ('+ rest * rest - rest;', '+ rest * rest;'),
+    ('groups * depth * (depth - 1)', 'groups * depth * depth'), ('cells % depth;', '0;'),
+    ('(size_t)2 * cells * (depth - 1) - headend', '(size_t)2 * cells * depth - headend'),
     ('(uint32_t)answer[at + 1] << 16', '(uint32_t)answer[at + 1] << 8'), ('(uint32_t)cells[2 * i] << 8', '(uint32_t)cells[i] << 8'),
     ('cells[2 * i + 1] = (uint8_t)(cell & 0xFFu)', 'cells[2 * i + 1] = (uint8_t)(cell & 0x7Fu)'),
     ('cell >> 8 & 0xFFu', 'cell >> 9 & 0xFFu'), ('headend_cell(plan, 2)', 'headend_cell(plan, 3)'),

@@ -18,57 +18,57 @@ What the program does with a case:
   x = x * 48271 % 2147483647; a data cell is x % 16384 of the new x.
 - `sum` is the checksum, 0 at the start of a case:
   mix(sum, v) = (sum * 48271 + v) % 2147483647.
-- The store is 120,000 cells, all 43981 at the start of each case.  The symbol
+- The store is 60,000 cells, all 43981 at the start of each case.  The symbol
   buffer is 4,097 cells, all 43981 at the start of each case.  The data buffer
   is 4,096 cells.
+- `need` is how many cells a store of the plan has at least, the sum of p mod M over
+  the cells p below N_I, M being plan byte 7 and N_I from the judge; 0 of a refused plan.
 - First N_D: for each phase 0 to 128 and then 4294967295: mix 1 and N_D, or mix
   2, number and place of the refusal.
-- Then, if the judge accepts the plan, a short fresh start: at the starting phase,
-  with only the first need - 1 cells of the store.  `need` = M x N_I, M being plan
-  byte 7 and N_I from the judge.  It is always refused, by 16 or 17; whatever it
-  answers is mixed as below, then the first 16 cells of the store.  After it another
-  with exactly the first `need` cells; its answer is mixed, and the next is done all
-  the same.
-- Then the fresh start at the starting phase with the whole store: mix 1, phase and
-  row of the state it gives, or mix 2, number and place; if it was refused, no step
-  is taken.
-- Then the steps, in order.  Each is given the state as the last answer left it,
-  except where said; `nd` is N_D at the state's phase.  The cells that a step names
-  are generated before it, also for a step that is refused.  Unless it says
-  otherwise, a step is given the whole store, and as symbol the first 4,096 cells of
-  the symbol buffer:
+- Then a short fresh start: at the starting phase, with only the first need - 1 cells
+  of the store, none if `need` is 0.  Its answer is mixed as below, then the first 16
+  cells of the store.  After it another with exactly the first `need` cells; its answer
+  is mixed, and the next is done all the same.
+- Then the fresh start at the starting phase with the whole store: mix 1 and the phase
+  of the state it gives, or mix 2, number and place; if it was refused, no step is
+  taken.
+- Then the steps, in order.  Each is given the state that the last one sent left, except
+  where said; `nd` is N_D at the state's phase.  The cells that a step names are
+  generated before it, also for a step that is refused.  Unless it says otherwise, a
+  step is given the whole store, and as symbol the first 4,096 cells of the symbol
+  buffer:
      0  emit with nd generated cells
      1  flush
      2  emit with nd - 1 generated cells
      3  emit with nd + 1 generated cells
      4  emit with nd generated cells, of which the one at nd // 2 is then put to
         16384 and the last to 65535 (if both are the same cell: 65535)
-     5  emit with nd generated cells and phase + 128 (the state handed back has
-        that phase; the run goes on with the phase as it was before)
-     6  flush with row + 32 (the run goes on with the row as it was before)
-     7  emit with nd generated cells and only the first need - 1 cells of the store
+     5  emit with nd generated cells and phase + 128
+     6  flush with phase 128
+     7  emit with nd generated cells and only the first need - 1 cells of the store,
+        none if `need` is 0
      8  flush with the first 4,095 cells of the symbol buffer
      9  flush with all 4,097 cells of the symbol buffer
     10  emit with nd generated cells and exactly the first `need` cells of the
         store (accepted)
-    11  flush with phase 4294967295 and row 4294967295 (the run goes on with
-        phase and row as before)
-    12  emit with no cells, row + 32 and the first 4,095 cells of the symbol
-        buffer (ground 16 comes first; the run goes on with phase and row as before)
+    11  flush with phase 4294967295
+    12  emit with no cells, phase + 128 and the first 4,095 cells of the symbol
+        buffer (ground 16 comes first)
     13  emit with nd - 1 generated cells, of which cell 0 is then put to 16384 (18
         comes before 19)
     14  emit with nd - 1 generated cells and only the first need - 1 cells of the
-        store (17 comes before 18)
+        store, none if `need` is 0 (17 comes before 18)
     15  emit with nd - 1 generated cells, of which cell 0 is then put to 32768, and
         the first 4,095 cells of the symbol buffer (17 comes before 18 and 19)
-    16  flush with row M (the run goes on with the row as it was before)
+    16  flush with only the first need - 1 cells of the store, none if `need` is 0
     17  emit with nd generated cells, of which cell 0 is then put to 32768 (19 at
         place 0)
-  A step with another number, 18 or more, counts as 1.  After each step: mix 1, next
-  phase and next row if it was sent; else mix 2, number, place, and the phase and row
-  handed back; then mix the first 4,096 cells of the symbol buffer (also after a
-  refused step: nothing may have changed).
-- At the end of the case, also if the fresh start was refused, mix all 120,000
+    18  flush with exactly the first `need` cells of the store (accepted)
+  A step with another number, 19 or more, counts as 1.  At depth 1, where `need` is 0, 7
+  and 16 are sent and 14 is refused by 18.  After each step: mix 1 and the next phase if
+  it was sent; else mix 2, number, place, and the phase handed back; then mix the first
+  4,096 cells of the symbol buffer (also after a refused step: nothing may have changed).
+- At the end of the case, also if the fresh start was refused, mix all 60,000
   cells of the store.
 
 The case's line: `sent refused sum`, decimal, single spaces: how many steps were
@@ -85,29 +85,33 @@ sys.dont_write_bytecode = True
 import emitter
 import plans
 import stored
-from emitter import Emitter, EmitterLimits
+from emitter import Emitter, EmitterLimits, Places, emitter_length
 from make_plans import all_plans
 from model import Limits
 from plans import (PLAN_A, band_below, entries, near_a, near_b, outside, plan,
                    second, singles, spread)
 from stored import PRIME, mix, mix_cells
 
-STORE = 120000
+STORE = 60000
 SYMBOL = 4096
 UNTOUCHED = 43981
 TOP = 4294967295
 ASKED = (*range(129), TOP)      # phases whose N_D is asked
 REFUSED = (2, 3, 4, 5, 6, 7, 8, 9, 11, 12, 13, 14, 15, 16, 17)
-PHASE_KEPT = (5, 11, 12)        # the run goes on with the phase as it was
-ROW_KEPT = (6, 11, 12, 16)      # the run goes on with the row as it was
 
 
 # --- the cases -------------------------------------------------------------
 
-def steps_of(seed, sent, opening=(), closing=()):
+def refused_kinds(m):
+    """The steps that are refused at a depth: at 1 no store is too short."""
+    return [kind for kind in REFUSED if m > 1 or kind not in (7, 16)]
+
+
+def steps_of(seed, m, sent, opening=(), closing=()):
     """The opening, then steps in no order, so many of which are sent and among
     which each of the refused kinds is, then the closing."""
     steps = []
+    refused = refused_kinds(m)
     x = seed
     drawn = 0
     while drawn < sent:
@@ -115,15 +119,17 @@ def steps_of(seed, sent, opening=(), closing=()):
         draw, which = x // 64 % 100, x // 8192
         if draw < 48:
             kind = 0
-        elif draw < 64:
+        elif draw < 62:
             kind = 1
+        elif draw < 64:
+            kind = 18
         elif draw < 66:
-            kind = (18, 77, 128, 255)[which % 4]    # these count as 1
+            kind = (19, 77, 128, 255)[which % 4]    # these count as 1
         elif draw < 72:
             kind = 10
         else:
             kind = REFUSED[which % len(REFUSED)]
-        drawn += kind not in REFUSED
+        drawn += kind not in refused
         steps.append(kind)
     for kind in REFUSED:
         if kind not in steps:
@@ -140,7 +146,7 @@ def all_cases():
     def case(name, data, phase, ranks, sent=160, opening=(), flushed=False):
         """A run; a flushed one ends with M - 1 flushes."""
         closing = [1] * (data[7] - 1) if flushed else []
-        cases.append((name, data, phase, steps_of(len(cases) + 1, sent, opening, closing), ranks))
+        cases.append((name, data, phase, steps_of(len(cases) + 1, data[7], sent, opening, closing), ranks))
 
     # Short runs.  If nothing is sent, the fresh store stays as it was filled.
     cases.append(('depth 2, nearly every step refused', near_a(M=2), 126,
@@ -161,7 +167,7 @@ def all_cases():
         if want.startswith('refused'):
             cases.append((name, data, (0, 127, 128, TOP)[n % 4], b'\0\1', want))
 
-    # Plan A at many depths.  A 5 at phase 0 asks for phase 128, a 6 at row 0 for row 32.
+    # Plan A at many depths.
     case('plan A', PLAN_A, 0, 425, opening=(5, 0, 4, 6))
     case('depth 3 from 0 and over the wrap', near_a(M=3), 0, 425, 270, (12,), True)
     case('depth 1 from 127', near_a(M=1), 127, 425, opening=(0, 5, 0))
@@ -230,9 +236,9 @@ class Generator:
         return cells
 
 
-def given_to(kind, m, phase, row, nd, need, cells):
-    """Phase, row, how much of the store, data (None is a flush) and how much
-    of the symbol buffer a step is given."""
+def given_to(kind, phase, nd, need, cells):
+    """Phase, how much of the store, data (None is a flush) and how much of the symbol
+    buffer a step is given."""
     store, data, symbol = STORE, None, SYMBOL
     if kind in (0, 4, 5, 7, 10, 17):
         data = cells.take(nd)
@@ -249,23 +255,21 @@ def given_to(kind, m, phase, row, nd, need, cells):
         put(data, 0, 16384)
     if kind in (15, 17):
         put(data, 0, 32768)
-    if kind == 5:
+    if kind in (5, 12):
         phase += 128
-    if kind in (6, 12):
-        row += 32
-    if kind == 16:
-        row = m
+    if kind == 6:
+        phase = 128
     if kind == 11:
-        phase = row = TOP
-    if kind in (7, 14):
-        store = need - 1
-    if kind == 10:
+        phase = TOP
+    if kind in (7, 14, 16):
+        store = max(need - 1, 0)
+    if kind in (10, 18):
         store = need
     if kind in (8, 12, 15):
         symbol = SYMBOL - 1
     if kind == 9:
         symbol = SYMBOL + 1
-    return phase, row, store, data, symbol
+    return phase, store, data, symbol
 
 
 def put(cells, i, cell):
@@ -289,37 +293,35 @@ def line_of(model, data, start, steps):
         total = mix(total, (2, *count[1:]) if isinstance(count, tuple) else (1, count))
     store = [UNTOUCHED] * STORE
     at = model.layout(data)
-    need = 0 if isinstance(at, tuple) else data[7] * at.n
-    for size in (need - 1, need) if need > 0 else ():
-        part = store[:size]
+    need = 0 if isinstance(at, tuple) else emitter_length(at.n, data[7])
+    for spare in (1, 0):
+        part = store[:max(need - spare, 0)]
+        size = len(part)
         total = mix_answer(total, model.fresh(data, start, part))
         assert len(part) == size
         store[:size] = part
-        if size < need:
+        if spare:
             total = mix_cells(total, store[:16])
     answer = model.fresh(data, start, store)
     total = mix_answer(total, answer)
     if answer[0] == 'refused':
         return 'refused %d %d %d' % (*answer[1:], mix_cells(total, store))
-    _, phase, row = answer
+    _, phase = answer
     buffer = [UNTOUCHED] * (SYMBOL + 1)
     cells = Generator()
     sent = 0
     for kind in steps:
-        asked_phase, asked_row, held, lent, size = given_to(
-            kind, data[7], phase, row, counts.get(phase, 0), need, cells)
+        asked, held, lent, size = given_to(kind, phase, counts.get(phase, 0), need, cells)
         part = store if held == STORE else store[:held]
         symbol = buffer[:size]
-        answer = model.step(data, asked_phase, asked_row, part, lent, symbol)
+        answer = model.step(data, asked, part, lent, symbol)
         assert len(part) == held and len(symbol) == size
         if part is not store:
             store[:held] = part
         buffer[:size] = symbol
-        if kind not in PHASE_KEPT:
-            phase = answer[-2]
-        if kind not in ROW_KEPT:
-            row = answer[-1]
-        sent += answer[0] == 'sent'
+        if answer[0] == 'sent':
+            _, phase = answer
+            sent += 1
         total = mix_cells(mix_answer(total, answer), buffer[:SYMBOL])
     return '%d %d %d' % (sent, len(steps) - sent, mix_cells(total, store))
 
@@ -329,7 +331,7 @@ def check_case(case, line):
     name, data, _, steps, want = case
     if isinstance(want, int):
         assert Emitter().layout(data).n == want, name
-        refused = sum(kind in REFUSED for kind in steps)
+        refused = sum(map(steps.count, refused_kinds(data[7])))
         want = '%d %d' % (len(steps) - refused, refused)
     assert line.startswith(want + ' '), '%s: by hand %s, model %s' % (name, want, line)
 
@@ -373,18 +375,21 @@ class Total(Emitter):
         return Emitter.input_symbol(
             self, at, phase, None if data is None else chain(data, repeat(0)))
 
-    def write(self, at, row, store, cells):
-        for p, cell in enumerate(cells):
-            i = self.place(at, row, p)
-            if i < len(store):
-                store[i] = cell
+    def move(self, places, store, cells):
+        if len(store) >= places.length:
+            return Emitter.move(self, places, store, cells)
+        longer = store + [0] * (places.length - len(store))
+        oldest = Emitter.move(self, places, longer, cells)
+        store[:] = longer[:len(store)]
+        return oldest
 
-    def send(self, at, row, store, symbol):
-        if len(store) < STORE:
-            store = store + [0] * (STORE - len(store))
+    def send(self, at, cells, symbol):
         line = []
-        Emitter.send(self, at, row, store, line)
+        Emitter.send(self, at, cells, line)
         symbol[:len(line)] = line[:len(symbol)]
+
+    def fill(self, store, cells):
+        Emitter.fill(self, store, cells[:len(store)])
 
 
 def bent(**methods):
@@ -410,17 +415,17 @@ def scattered_at(self, at, phase):
     return [self.on_grid(at.map, k, phase) for k in at.carriers]
 
 
-class RowIsPhase(Total):
-    """The row that it is given is not read."""
+class CountedInCells(Total):
+    """The delays go on from symbol to symbol, though M does not divide N_I."""
 
-    def step(self, plan, phase, row, store, data, symbol):
-        answer = self.refusal(plan, emitter.Given(phase, row, store, data, symbol))
-        if answer:
-            return (*answer, phase, row)
-        return Total.step(self, plan, phase, phase % plan[7], store, data, symbol)
-
-    def next_row(self, at, phase, row):
-        return self.next_phase(phase) % at.m
+    def step(self, plan, phase, store, data, symbol):
+        at = self.layout(plan)
+        if not isinstance(at, tuple):
+            at.places['emitter'] = Places([(phase * at.n + p) % at.m for p in range(at.n)])
+        answer = Total.step(self, plan, phase, store, data, symbol)
+        if not isinstance(at, tuple):
+            del at.places['emitter']
+        return answer
 
 
 class FirstOnly(Total):
@@ -430,66 +435,70 @@ class FirstOnly(Total):
         self.first = None
         return Total.fresh(self, plan, phase, store)
 
-    def send(self, at, row, store, symbol):
+    def move(self, places, store, cells):
+        self.given = cells
+        return Total.move(self, places, store, cells)
+
+    def send(self, at, cells, symbol):
         if self.first is None:
-            Total.send(self, at, row, store, symbol)
+            Total.send(self, at, cells, symbol)
             self.first = list(symbol)
         else:
-            self.other(at, row, store, symbol)
+            symbol[:] = at.marks
+            self.other(at, cells, symbol)
 
 
 class FirstThenCopies(FirstOnly):
-    def other(self, at, row, store, symbol):
-        symbol[:] = at.marks
-        for p, k in enumerate(at.subcarriers):
-            symbol[k] = store[self.place(at, row, p)]
+    def other(self, at, cells, symbol):
+        for k, cell in zip(at.subcarriers, self.given):
+            symbol[k] = cell
 
 
 class FirstThenDelays(FirstOnly):
-    def other(self, at, row, store, symbol):
-        symbol[:] = at.marks
-        for p, k in enumerate(at.subcarriers):
-            symbol[k] = store[self.source(at, row, p)]
+    def other(self, at, cells, symbol):
+        for k, cell in zip(at.subcarriers, cells):
+            symbol[k] = cell
 
 
 class FirstThenPlaces(FirstOnly):
-    def other(self, at, row, store, symbol):
-        symbol[:] = at.marks
-        for p, k in enumerate(at.carriers):
-            symbol[k] = store[self.place(at, row, p)]
+    def other(self, at, cells, symbol):
+        for k, cell in zip(at.carriers, self.given):
+            symbol[k] = cell
 
 
 class FirstAgain(FirstOnly):
-    def other(self, at, row, store, symbol):
+    def other(self, at, cells, symbol):
         symbol[:] = self.first
 
 
 class Silent(Total):
     """Its steps answer as they should."""
 
-    def step(self, plan, phase, row, store, data, symbol):
-        return Total.step(self, plan, phase, row, list(store), data, list(symbol))
+    def step(self, plan, phase, store, data, symbol):
+        return Total.step(self, plan, phase, list(store), data, list(symbol))
 
 
 def nothing(*given):
     """Instead of a method that writes."""
 
 
+def unmoved(self, places, store, cells):
+    """Answers the oldest cells and leaves the store."""
+    return Total.move(self, places, list(store), cells)
+
+
 def shortcut_mutants():
     yield 'N_D counted from the emitted symbol', bent(
         count=lambda self, at, phase: at.n - sum(scattered_at(self, at, phase)))
     yield 'placeholders of the emitted symbol', bent(placeholders=scattered_at)
-    yield 'delay counted in cells', bent(
-        source=lambda self, at, row, p: self.place(at, (row - (row * at.n + p)) % at.m, p))
+    yield 'delay counted in cells', CountedInCells()
     yield 'scattered pilots referred to subcarrier 0', bent(
         on_grid=lambda self, p, k, phase: (k - phase) % 128 == 0)
-    yield 'next row is the next phase mod M', bent(
-        next_row=lambda self, at, phase, row: self.next_phase(phase) % at.m)
-    yield 'row taken as phase mod M', RowIsPhase()
-    yield 'writes nothing', bent(write=nothing, send=nothing)
+    yield 'writes nothing', bent(move=unmoved, fill=nothing, send=nothing)
     yield 'steps write nothing', Silent()
     yield 'writes the store only', bent(send=nothing)
-    yield 'writes the symbol only', bent(write=nothing)
+    yield 'writes the symbol only', bent(move=unmoved, fill=nothing)
+    yield 'steps write the symbol only', bent(move=unmoved)
     yield 'interleaves the first symbol, then copies', FirstThenCopies()
     yield 'interleaves the first symbol, then only delays', FirstThenDelays()
     yield 'interleaves the first symbol, then only places', FirstThenPlaces()
@@ -503,37 +512,32 @@ def shortcut_mutants():
 def refused_mutants():
     def after(ground, change):
         """A model that does more when a step is refused by the ground (0: by any)."""
-        def step(self, plan, phase, row, store, data, symbol):
-            answer = Total.step(self, plan, phase, row, store, data, symbol)
+        def step(self, plan, phase, store, data, symbol):
+            answer = Total.step(self, plan, phase, store, data, symbol)
             if answer[0] == 'refused' and ground in (0, answer[1]):
-                return change(answer, plan[7], store, symbol) or answer
+                return change(answer, store, symbol) or answer
             return answer
         return bent(step=step)
 
     def raised(cells, i):
-        cells[i] += 1
+        if i < len(cells):
+            cells[i] += 1
 
     changes = {
-        'moves the phase': lambda a, m, store, symbol: (*a[:3], (a[3] + 1) % 128, a[4]),
-        'moves the row': lambda a, m, store, symbol: (*a[:4], (a[4] + 1) % (m + 1)),
-        'hands back phase 0': lambda a, m, store, symbol: (*a[:3], 0, a[4]),
-        'hands back row 0': lambda a, m, store, symbol: (*a[:4], 0),
-        'writes the first cell of the symbol': lambda a, m, store, symbol: raised(symbol, 0),
-        'writes a cell of the symbol': lambda a, m, store, symbol: raised(symbol, 1000),
-        'writes the last cell of the symbol': lambda a, m, store, symbol: raised(symbol, -1),
-        'writes the first cell of the store': lambda a, m, store, symbol: raised(store, 0),
-        'writes a cell of the store': lambda a, m, store, symbol: raised(store, 401),
+        'moves the phase': lambda a, store, symbol: (*a[:3], (a[3] + 1) % 128),
+        'hands back phase 0': lambda a, store, symbol: (*a[:3], 0),
+        'writes the first cell of the symbol': lambda a, store, symbol: raised(symbol, 0),
+        'writes a cell of the symbol': lambda a, store, symbol: raised(symbol, 1000),
+        'writes the last cell of the symbol': lambda a, store, symbol: raised(symbol, -1),
+        'writes the first cell of the store': lambda a, store, symbol: raised(store, 0),
+        'writes a cell of the store': lambda a, store, symbol: raised(store, 101),
     }
     for name, change in changes.items():
         for ground in (0, 16, 17, 18, 19):
             by = 'any ground' if ground == 0 else 'ground %d' % ground
             yield 'a step refused by %s %s' % (by, name), after(ground, change)
     yield 'a refused step hands back the phase modulo 128', after(
-        0, lambda a, m, store, symbol: (*a[:3], a[3] % 128, a[4]))
-    yield 'a refused step hands back the row modulo M', after(
-        0, lambda a, m, store, symbol: (*a[:4], a[4] % m))
-    yield 'a refused step hands back phase and row exchanged', after(
-        0, lambda a, m, store, symbol: (*a[:3], a[4], a[3]))
+        0, lambda a, store, symbol: (*a[:3], a[3] % 128))
 
     def fresh_after(which):
         """A model whose fresh start writes a cell when it is refused by such a
@@ -550,57 +554,52 @@ def refused_mutants():
 
 
 def fresh_mutants():
-    def rows(change):
-        def fresh_rows(self, at, phase):
-            made = Total.fresh_rows(self, at, phase)
-            return change(self, at, phase, made)
-        return bent(fresh_rows=fresh_rows)
+    def places(change):
+        """Other places of a fresh store: `change` is given the sound ones."""
+        return bent(fresh_places=lambda self, at, phase: change(
+            self, at, phase, Total.fresh_places(self, at, phase)))
 
-    def back(phase_of, only=lambda at, row: True):
-        """Row M-r without data, at another phase."""
-        return rows(lambda self, at, phase, made: made[:1] + [
-            self.input_symbol(at, phase_of(phase, at.m - row) % 128, None)
-            if only(at, row) else made[row] for row in range(1, at.m)])
+    def back(phase_of, only=lambda r, count: True):
+        """The place r steps back without data, at another phase."""
+        def fresh_places(self, at, phase):
+            symbols = {r: self.input_symbol(at, phase_of(phase, r) % 128, None) for r in range(1, 33)}
+            made = Total.fresh_places(self, at, phase)
+            return [[symbols[r][p] if only(r, len(cells)) else cells[len(cells) - r]
+                     for r in range(len(cells), 0, -1)] for p, cells in enumerate(made)]
+        return bent(fresh_places=fresh_places)
 
-    def row_1(at, row):
-        return row == 1
-
-    def last_row(at, row):
-        return row == at.m - 1
-
-    for which, only in (('rows', lambda at, row: True), ('row 1', row_1),
-                        ('row M-1', last_row)):
+    for which, only in (('places', lambda r, count: True), ('newest place', lambda r, count: r == 1),
+                        ('oldest place', lambda r, count: r == count)):
         yield 'fresh %s one phase early' % which, back(lambda j, r: j - r - 1, only)
         yield 'fresh %s one phase late' % which, back(lambda j, r: j - r + 1, only)
         yield 'fresh %s ahead' % which, back(lambda j, r: j + r, only)
-    yield 'fresh rows at the phase', back(lambda j, r: j)
-    yield 'fresh rows the other way round', rows(
-        lambda self, at, phase, made: made[:1] + made[:0:-1])
-    yield 'fresh row 0 a flush at the phase', rows(
-        lambda self, at, phase, made: [self.input_symbol(at, phase, None)] + made[1:])
-    yield 'fresh row 0 a flush M steps back', rows(
-        lambda self, at, phase, made: [self.input_symbol(at, (phase - at.m) % 128, None)]
-        + made[1:])
-    yield 'fresh row 0 left as it was', rows(lambda self, at, phase, made: [[]] + made[1:])
-    yield 'fresh rows all filler', rows(
-        lambda self, at, phase, made: [made[0]] * at.m)
-    yield 'fresh data zero', rows(
-        lambda self, at, phase, made: [[0 if cell == 0x8001 else cell for cell in row]
-                                       for row in made])
+    yield 'fresh places at the phase', back(lambda j, r: j)
+    yield 'fresh places M steps back', bent(fresh_places=lambda self, at, phase: [
+        [self.input_symbol(at, (phase - at.m) % 128, None)[p]] * (p % at.m) for p in range(at.n)])
+    yield 'fresh places the newest first', places(
+        lambda self, at, phase, made: [cells[::-1] for cells in made])
+    yield 'fresh places of the next cell', places(
+        lambda self, at, phase, made: [(made + made)[p + 1][:1] * len(made[p]) for p in range(at.n)])
+    yield 'fresh places all filler', places(
+        lambda self, at, phase, made: [[0x8001] * len(cells) for cells in made])
+    yield 'fresh places all placeholders', places(
+        lambda self, at, phase, made: [[0x8000] * len(cells) for cells in made])
+    yield 'fresh data zero', places(
+        lambda self, at, phase, made: [[0 if cell == 0x8001 else cell for cell in cells]
+                                       for cells in made])
+    yield 'fresh store left as it was', bent(fill=nothing)
+    yield 'fresh store without its last cell', places(
+        lambda self, at, phase, made: made[:-1] + [made[-1][:-1]])
     yield 'fresh phase gone round at 127', back(lambda j, r: (j - r) % 127)
-    yield 'fresh phase not gone round', rows(
-        lambda self, at, phase, made: made[:1] + [
-            self.input_symbol(at, max(phase - at.m + row, 0), None) for row in range(1, at.m)])
+    yield 'fresh phase not gone round', back(lambda j, r: max(j - r, 0))
 
     def fresh_state(change):
         def fresh(self, plan, phase, store):
             answer = Total.fresh(self, plan, phase, store)
-            return change(answer, plan) if answer[0] == 'fresh' else answer
+            return change(answer) if answer[0] == 'fresh' else answer
         return bent(fresh=fresh)
-    yield 'fresh row is 1', fresh_state(lambda a, plan: (*a[:2], 1 % plan[7]))
-    yield 'fresh row is the phase mod M', fresh_state(lambda a, plan: (*a[:2], a[1] % plan[7]))
-    yield 'fresh phase one later', fresh_state(lambda a, plan: ('fresh', (a[1] + 1) % 128, 0))
-    yield 'fresh phase 0', fresh_state(lambda a, plan: ('fresh', 0, 0))
+    yield 'fresh phase one later', fresh_state(lambda a: ('fresh', (a[1] + 1) % 128))
+    yield 'fresh phase 0', fresh_state(lambda a: ('fresh', 0))
 
 
 def reading_mutants():
@@ -655,15 +654,13 @@ def delay_mutants():
     for name, delay in delays.items():
         yield 'delay: %s' % name, bent(delay=lambda self, at, p, delay=delay: delay(at, p))
         yield 'delay of the store: %s' % name, bent(
-            source=lambda self, at, row, p, delay=delay:
-            self.place(at, (row - delay(at, p)) % at.m, p))
+            emitter_places=lambda self, at, p, delay=delay: delay(at, p))
         yield 'delay of the placeholders: %s' % name, bent(
             is_placeholder=lambda self, at, p, phase, delay=delay:
             self.on_grid(at.map, at.carriers[p], phase + delay(at, p)))
-    yield 'ring backwards', bent(
-        source=lambda self, at, row, p: self.place(at, (row + p % at.m) % at.m, p))
-    yield 'ring of 32 rows', bent(
-        source=lambda self, at, row, p: self.place(at, (row - p % at.m) % 32 % at.m, p))
+    yield 'a place more', bent(emitter_places=lambda self, at, p: p % at.m + 1)
+    yield 'a place less', bent(emitter_places=lambda self, at, p: max(p % at.m - 1, 0))
+    yield 'M - 1 places for each cell', bent(emitter_places=lambda self, at, p: at.m - 1)
     yield 'placeholders at an earlier phase', bent(
         is_placeholder=lambda self, at, p, phase:
         self.on_grid(at.map, at.carriers[p], phase - p % at.m))
@@ -688,9 +685,9 @@ def mark_mutants():
 
     def kept(test):
         """Some subcarriers without a rank keep what the symbol held before."""
-        def send(self, at, row, store, symbol):
+        def send(self, at, cells, symbol):
             before = list(symbol)
-            Total.send(self, at, row, store, symbol)
+            Total.send(self, at, cells, symbol)
             for k in set(range(4096)) - set(at.carriers):
                 if test(self, at, k):
                     symbol[k] = before[k]
@@ -713,8 +710,8 @@ def mark_mutants():
     for name, test in (('continuous', lambda cell: cell == 0x8003),
                        ('PLC', lambda cell: cell == 0x8004),
                        ('excluded', lambda cell: cell == 0x8002)):
-        def step(self, plan, phase, row, store, data, symbol, test=test):
-            answer = Total.step(self, plan, phase, row, store, data, symbol)
+        def step(self, plan, phase, store, data, symbol, test=test):
+            answer = Total.step(self, plan, phase, store, data, symbol)
             if answer[0] == 'sent':
                 at = self.layout(plan)
                 for k, cell in enumerate(symbol):
@@ -764,80 +761,127 @@ def data_mutants():
     yield 'flush without placeholders', bent(
         input_symbol=lambda self, at, phase, data: [0x8001] * at.n if data is None
         else Total.input_symbol(self, at, phase, data),
-        fresh_rows=lambda self, at, phase: Emitter().fresh_rows(at, phase))
+        fresh_places=lambda self, at, phase: Emitter().fresh_places(at, phase))
 
     def flushing(change):
-        def step(self, plan, phase, row, store, data, symbol):
-            before = list(store[:plan[7] * 4096])
-            answer = Total.step(self, plan, phase, row, store, data, symbol)
+        def step(self, plan, phase, store, data, symbol):
+            before = list(store)
+            answer = Total.step(self, plan, phase, store, data, symbol)
             if answer[0] == 'sent' and data is None:
-                return change(answer, phase, row, store, before)
+                return change(answer, phase, store, before)
             return answer
         return bent(step=step)
 
-    def unwritten(answer, phase, row, store, before):
-        store[:len(before)] = before
+    def unwritten(answer, phase, store, before):
+        store[:] = before
         return answer
     yield 'a flush leaves the store', flushing(unwritten)
     yield 'a flush leaves the phase', flushing(
-        lambda answer, phase, row, store, before: ('sent', phase, answer[2]))
-    yield 'a flush leaves the row', flushing(
-        lambda answer, phase, row, store, before: ('sent', answer[1], row))
+        lambda answer, phase, store, before: ('sent', phase))
+
+
+def newest_first(self, places, store, cells):
+    """Moves the cells with the newest in the first place."""
+    oldest = []
+    for first, count, cell in zip(places.first, places.counts, cells):
+        kept = [cell, *store[first:first + count]]
+        oldest.append(kept.pop())
+        for i, cell in enumerate(kept):
+            put(store, first + i, cell)
+    return oldest
+
+
+def move_mutants(model, bent):
+    """Other ways to move the cells of a store; what they answer is what goes out.  `model` is the one
+    that is bent, of an emitter or a receiver."""
+    def moving(change):
+        """`change` is given the places of a cell as they were and the cell that comes, and answers what
+        goes out and the places."""
+        def move(self, places, store, cells):
+            oldest = []
+            for first, count, cell in zip(places.first, places.counts, cells):
+                out, kept = change(store[first:first + count], cell)
+                oldest.append(out)
+                for i, cell in enumerate(kept[:count]):
+                    put(store, first + i, cell)
+            return oldest
+        return bent(move=move)
+
+    yield 'the newest goes out', moving(
+        lambda kept, cell: (kept[-1], kept[:-1] + [cell]) if kept else (cell, []))
+    yield 'the second goes out', moving(
+        lambda kept, cell: ((kept + [cell])[min(1, len(kept))], kept[1:] + [cell]))
+    yield 'the newest first in the store', bent(move=newest_first)
+    yield 'the cell put before the others', moving(
+        lambda kept, cell: ((kept + [cell])[0], [cell] + kept[1:]))
+    yield 'the oldest kept', moving(lambda kept, cell: ((kept + [cell])[0], kept[:-1] + [cell]))
+    yield 'the places not moved', moving(lambda kept, cell: ((kept + [cell])[0], kept))
+    yield 'the cell comes out at once', moving(lambda kept, cell: (cell, kept[1:] + [cell]))
+    yield 'cells without a place come out as filler', moving(
+        lambda kept, cell: ((kept + [0x8001])[0], kept[1:] + [cell]))
+
+    def unmoved_cell(which):
+        """The places of one cell are left as they are."""
+        def move(self, places, store, cells):
+            p = which(places, len(cells))
+            first, count = places.first[p], places.counts[p]
+            was = store[first:first + count]
+            oldest = model.move(self, places, store, cells)
+            store[first:first + count] = was[:len(store[first:first + count])]
+            return oldest
+        return bent(move=move)
+    yield 'the places of cell 0 or 1 not moved', unmoved_cell(lambda places, n: int(places.counts[0] == 0))
+    yield 'the places of the last cells not moved', unmoved_cell(
+        lambda places, n: max(p for p in range(n) if places.counts[p] or p == 0))
+
+    def ordered(order):
+        """The same places, other cells first: `order` of the cells."""
+        def move(self, places, store, cells):
+            first = dict(zip(order(len(cells)), Places(
+                [places.counts[p] for p in order(len(cells))]).first))
+            turned = Places(places.counts)
+            turned.first = [first[p] for p in range(len(cells))]
+            return model.move(self, turned, store, cells)
+        return bent(move=move)
+    yield 'cells in falling p', ordered(lambda n: range(n - 1, -1, -1))
+    yield 'even cells before odd ones', ordered(lambda n: [*range(0, n, 2), *range(1, n, 2)])
 
 
 def store_mutants():
+    yield from move_mutants(Total, bent)
+    yield 'the newest first, in a fresh store too', bent(
+        move=newest_first, fresh_places=lambda self, at, phase: [
+            cells[::-1] for cells in Total.fresh_places(self, at, phase)])
+
     def sent(change):
         """A model whose sent steps change the store further."""
-        def step(self, plan, phase, row, store, data, symbol):
-            answer = Total.step(self, plan, phase, row, store, data, symbol)
+        def step(self, plan, phase, store, data, symbol):
+            answer = Total.step(self, plan, phase, store, data, symbol)
             if answer[0] == 'sent':
-                change(self, self.layout(plan), row, store)
+                change(self.places(self.layout(plan)), store)
             return answer
         return bent(step=step)
 
-    def clear(self, at, row, store):
-        self.write(at, (row + 1) % at.m, store, [0x8001] * at.n)
-
-    def sent_before(self, plan, phase, row, store, data, symbol):
-        was = list(store)
-        answer = Total.step(self, plan, phase, row, store, data, symbol)
-        if answer[0] == 'sent':
-            self.send(self.layout(plan), row, was, symbol)
-        return answer
-
-    yield 'steps write the cell past M x N_I', sent(
-        lambda self, at, row, store: put(store, at.m * at.n, 0x8001))
+    yield 'steps write the cell past the places', sent(
+        lambda places, store: put(store, places.length, 0x8001))
     yield 'steps write the last cell of the store', sent(
-        lambda self, at, row, store: put(store, STORE - 1, 0x8001))
-    yield 'steps write 4,096 cells of a row', sent(
-        lambda self, at, row, store: [put(store, at.n * row + p, 0x8001)
-                                       for p in range(at.n, 4096)])
-    yield 'the row to come cleared', sent(clear)
-    yield 'the first cell of the row before written', sent(
-        lambda self, at, row, store: put(store, (row - 1) % at.m * at.n, 0x8001))
+        lambda places, store: put(store, STORE - 1, 0x8001))
+    yield 'steps write the first place', sent(lambda places, store: put(store, 0, 0x8001))
+    yield 'steps write the last place', sent(
+        lambda places, store: put(store, places.length - 1, 0x8001))
 
     def fresh(self, plan, phase, store):
         answer = Total.fresh(self, plan, phase, store)
         if answer[0] == 'fresh':
-            put(store, plan[7] * self.layout(plan).n, 0x8001)
+            put(store, self.places(self.layout(plan)).length, 0x8001)
         return answer
-    yield 'the fresh start writes the cell past M x N_I', bent(fresh=fresh)
+    yield 'the fresh start writes the cell past the places', bent(fresh=fresh)
 
     def filled(self, plan, phase, store):
-        if not self.refusal(plan, emitter.Given(phase, store=store)):
+        if not self.refusal(plan, emitter.Given(phase, store)):
             store[:] = [0x8001] * len(store)
         return Total.fresh(self, plan, phase, store)
     yield 'the fresh start fills the whole store', bent(fresh=filled)
-    yield 'sends before it writes', bent(step=sent_before)
-    yield 'store by cells, then rows', bent(place=lambda self, at, row, p: p * at.m + row)
-    yield 'rows 3,745 cells apart', bent(place=lambda self, at, row, p: 3745 * row + p)
-    yield 'rows M-1 to 0', bent(place=lambda self, at, row, p: (at.m - 1 - row) * at.n + p)
-    yield 'writes the row after', bent(
-        write=lambda self, at, row, store, cells: Total.write(
-            self, at, (row + 1) % at.m, store, cells))
-    yield 'every row written', bent(
-        write=lambda self, at, row, store, cells: [
-            Total.write(self, at, r, store, cells) for r in range(at.m)])
 
 
 def state_mutants():
@@ -852,19 +896,6 @@ def state_mutants():
     }
     for name, after in phases.items():
         yield 'phase %s' % name, bent(next_phase=lambda self, j, after=after: after(j))
-    rows = {
-        'stays': lambda at, row: row,
-        'falls': lambda at, row: (row - 1) % at.m,
-        'goes up by two': lambda at, row: (row + 2) % at.m,
-        'goes round at 32': lambda at, row: (row + 1) % 32,
-        'goes round at M+1': lambda at, row: (row + 1) % (at.m + 1),
-        'goes round at M-1': lambda at, row: (row + 1) % max(at.m - 1, 1),
-        'stops at M-1': lambda at, row: min(row + 1, at.m - 1),
-        'goes round at N_I mod M': lambda at, row: (row + 1) % (at.n % at.m or at.m),
-    }
-    for name, after in rows.items():
-        yield 'row %s' % name, bent(
-            next_row=lambda self, at, phase, row, after=after: after(at, row))
 
 
 def ground_mutants():
@@ -885,28 +916,19 @@ def ground_mutants():
         return bent(**{'ground_%d' % ground: lambda self, at, given:
                        0 if test(self, at, given) else None})
 
-    def row_out(at, given):
-        return given.row is not None and given.row >= at.m
-
-    yield 'ground 16: phase not tried', holds(16, lambda self, at, g: row_out(at, g))
-    yield 'ground 16: row not tried', holds(16, lambda self, at, g: g.phase >= 128)
+    yield 'ground 16: phase 128 good', holds(16, lambda self, at, g: g.phase > 128)
     yield 'ground 16: phase 128 good in a step', holds(
-        16, lambda self, at, g: g.phase > (127 if g.row is None else 128) or row_out(at, g))
+        16, lambda self, at, g: g.phase > (127 if g.symbol is None else 128))
     yield 'ground 16: phase not tried in a step', holds(
-        16, lambda self, at, g: g.phase > 127 and g.row is None or row_out(at, g))
-    yield 'ground 16: row M good', holds(
-        16, lambda self, at, g: g.phase > 127 or g.row is not None and g.row > at.m)
-    yield 'ground 16: row 31 good at every depth', holds(
-        16, lambda self, at, g: g.phase > 127 or g.row is not None and g.row > 31)
-    yield 'ground 16: row M-1 bad', holds(
-        16, lambda self, at, g: g.phase > 127 or g.row is not None and g.row >= max(at.m - 1, 1))
-    yield 'ground 16: phase 127 bad', holds(16, lambda self, at, g: g.phase > 126
-                                            or row_out(at, g))
-    yield 'ground 16: phase and row by their low byte', holds(
-        16, lambda self, at, g: g.phase % 256 > 127
-        or g.row is not None and g.row % 256 >= at.m)
-    yield 'ground 16: both must be out', holds(
-        16, lambda self, at, g: g.phase > 127 and (g.row is None or g.row >= at.m))
+        16, lambda self, at, g: g.phase > 127 and g.symbol is None)
+    yield 'ground 16: phase not tried in an emit', holds(
+        16, lambda self, at, g: g.phase > 127 and g.data is None)
+    yield 'ground 16: phase not tried in a flush', holds(
+        16, lambda self, at, g: g.phase > 127 and (g.data is not None or g.symbol is None))
+    yield 'ground 16: phase not tried in a fresh start', holds(
+        16, lambda self, at, g: g.phase > 127 and (g.symbol is not None or g.store is None))
+    yield 'ground 16: phase 127 bad', holds(16, lambda self, at, g: g.phase > 126)
+    yield 'ground 16: phase by its low byte', holds(16, lambda self, at, g: g.phase % 256 > 127)
 
     def short(at, given, need):
         return given.store is not None and len(given.store) < need
@@ -914,44 +936,53 @@ def ground_mutants():
     def odd(given):
         return given.symbol is not None and len(given.symbol) != 4096
 
-    yield 'ground 17: store with <=', holds(
-        17, lambda self, at, g: short(at, g, at.m * at.n + 1) or odd(g))
-    yield 'ground 17: one cell too few is good', holds(
-        17, lambda self, at, g: short(at, g, at.m * at.n - 1) or odd(g))
-    yield 'ground 17: store of one row', holds(
-        17, lambda self, at, g: short(at, g, at.n) or odd(g))
-    yield 'ground 17: store of M - 1 rows', holds(
-        17, lambda self, at, g: short(at, g, (at.m - 1) * at.n) or odd(g))
-    yield 'ground 17: store of 32 rows', holds(
-        17, lambda self, at, g: short(at, g, 32 * at.n) or odd(g))
-    yield 'ground 17: store of M x J cells', holds(
-        17, lambda self, at, g: short(at, g, -(-at.n // at.m) * at.m * at.m) or odd(g))
-    yield 'ground 17: store not tried', holds(17, lambda self, at, g: odd(g))
+    def triangle(m):
+        return m * (m - 1) // 2
+
+    def needed(at):
+        return emitter_length(at.n, at.m)
+
+    lengths = {
+        'with <=': lambda at, g: needed(at) + 1,
+        'one cell too few is good': lambda at, g: needed(at) - 1,
+        "the receiver's length": lambda at, g: at.n * (at.m - 1) - needed(at),
+        'M x N_I cells': lambda at, g: at.m * at.n,
+        '(M - 1) x N_I cells': lambda at, g: (at.m - 1) * at.n,
+        '(M - 1) x N_I / 2 cells': lambda at, g: (at.m - 1) * at.n // 2,
+        'the groups of M cells that are whole': lambda at, g: at.n // at.m * triangle(at.m),
+        'the last group of M cells as if whole': lambda at, g: -(-at.n // at.m) * triangle(at.m),
+        'p mod M counted from 1': lambda at, g: needed(at) + at.n,
+        'as at depth 32': lambda at, g: emitter_length(at.n, 32),
+        'a place less in an emit': lambda at, g: needed(at) - (g.data is not None),
+        'a place less in a flush': lambda at, g: needed(at) - (
+            g.symbol is not None and g.data is None),
+        'a place less in a fresh start': lambda at, g: needed(at) - (g.symbol is None),
+        'not tried in an emit': lambda at, g: 0 if g.data is not None else needed(at),
+        'not tried in a flush': lambda at, g: 0 if g.symbol is not None and g.data is None
+        else needed(at),
+        'not tried in a fresh start': lambda at, g: 0 if g.symbol is None else needed(at),
+        'not tried': lambda at, g: 0,
+    }
+    for name, length in lengths.items():
+        yield 'ground 17: store: ' + name, holds(
+            17, lambda self, at, g, length=length: short(at, g, length(at, g)) or odd(g))
     yield 'ground 17: symbol not tried', holds(
-        17, lambda self, at, g: short(at, g, at.m * at.n))
+        17, lambda self, at, g: short(at, g, needed(at)))
     yield 'ground 17: short symbol good', holds(
-        17, lambda self, at, g: short(at, g, at.m * at.n) or odd(g) and len(g.symbol) > 4096)
+        17, lambda self, at, g: short(at, g, needed(at)) or odd(g) and len(g.symbol) > 4096)
     yield 'ground 17: long symbol good', holds(
-        17, lambda self, at, g: short(at, g, at.m * at.n) or odd(g) and len(g.symbol) < 4096)
-    yield 'ground 17: not tried by the fresh start', holds(
-        17, lambda self, at, g: g.symbol is not None
-        and (short(at, g, at.m * at.n) or odd(g)))
-    yield 'ground 17: one cell too few is good for the fresh start', holds(
-        17, lambda self, at, g: short(at, g, at.m * at.n - (g.symbol is None)) or odd(g))
-    yield 'ground 17: the fresh start needs M - 1 rows', holds(
-        17, lambda self, at, g: short(at, g, (at.m - (g.symbol is None)) * at.n) or odd(g))
+        17, lambda self, at, g: short(at, g, needed(at)) or odd(g) and len(g.symbol) < 4096)
 
     def late(part):
         """The ground that speaks of a part of what is given, tried after the others."""
         return bent(refusal=lambda self, plan, given: Total.refusal(
             self, plan, given._replace(**{part: None})) or Total.refusal(self, plan, given))
-    yield 'ground 16: row tried last', late('row')
     yield 'ground 17: store tried last', late('store')
     yield 'ground 17: symbol tried last', late('symbol')
 
     yield 'the fresh start tries 17 before 16', bent(
         fresh=lambda self, plan, phase, store:
-        self.refusal(plan, emitter.Given(phase % 128, store=store))
+        self.refusal(plan, emitter.Given(phase % 128, store))
         or Total.fresh(self, plan, phase, store))
 
     def wrong_count(test):
@@ -962,7 +993,7 @@ def ground_mutants():
     yield 'ground 18: up to N_I cells good', wrong_count(
         lambda given, count, n: not count <= given <= n)
     yield 'ground 18: a flush has no cells', holds(
-        18, lambda self, at, g: g.row is not None
+        18, lambda self, at, g: g.symbol is not None
         and len(g.data or []) != self.count(at, g.phase))
 
     def wrong_cell(place):

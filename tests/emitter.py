@@ -1,5 +1,5 @@
 #!/usr/bin/env python3
-"""A second model of the emitter, written from the scope paper alone.
+"""A second model of the emitter, written from the scope paper and request 03 alone.
 
 It knows the frequency and the time interleaver, the placeholders of an input
 symbol, N_D, the store, the fresh start and one step, with grounds 16 to 19
@@ -17,7 +17,7 @@ role of each subcarrier of a sent symbol.
 
 import sys
 from dataclasses import dataclass
-from itertools import repeat
+from itertools import accumulate, chain, repeat
 from typing import NamedTuple, Optional
 
 sys.dont_write_bytecode = True
@@ -44,13 +44,21 @@ class EmitterLimits(Limits):
 class Given(NamedTuple):
     """What an entry is given beside the plan; None is not given."""
     phase: int
-    row: Optional[int] = None
     store: Optional[list] = None
     data: Optional[list] = None     # a flush is given none
     symbol: Optional[list] = None
     heard: Optional[int] = None     # this and the rest only by a receive step
     arriving: Optional[list] = None
     buffer: Optional[list] = None
+    end: str = 'emitter'            # whose store it is
+
+
+class Places:
+    """The places of a store: so many for each cell, cells in rising p."""
+
+    def __init__(self, counts):
+        self.counts = counts
+        *self.first, self.length = accumulate(counts, initial=0)    # first: of each cell
 
 
 class Layout:
@@ -66,7 +74,7 @@ class Layout:
         self.carriers = [self.subcarriers[rank] for rank in self.ranks]     # of each cell
         self.marks = [emitter.mark(p, k) for k in range(len(p.excluded))]
         self.placeholders = {}      # by phase
-        self.sources = {}           # by row
+        self.places = {}            # by end, of its store
         self.marks_at = {}          # by phase, of the arriving symbol
 
 
@@ -124,13 +132,16 @@ class Emitter(Model):
         """By how many symbols cell p is delayed."""
         return p % at.m
 
-    def source(self, at, row, p):
-        """Where cell p is sent from: its place in the row p mod M back."""
-        return self.place(at, (row - self.delay(at, p)) % at.m, p)
+    def emitter_places(self, at, p):
+        """How many places cell p has in the store: one for each symbol of delay."""
+        return self.delay(at, p)
 
-    def place(self, at, row, p):
-        """Cell p of a row, in the store: row after row, N_I cells each."""
-        return row * at.n + p
+    def places(self, at, end='emitter'):
+        """The places of the store of an end."""
+        if end not in at.places:
+            count = getattr(self, end + '_places')
+            at.places[end] = Places([count(at, p) for p in range(at.n)])
+        return at.places[end]
 
     # --- the input symbol --------------------------------------------------
 
@@ -157,46 +168,46 @@ class Emitter(Model):
 
     # --- store and symbol --------------------------------------------------
 
-    def write(self, at, row, store, cells):
-        """Writes a row of the store."""
-        for p, cell in enumerate(cells):
-            store[self.place(at, row, p)] = cell
+    def move(self, places, store, cells):
+        """Puts each cell behind its places, which hold the oldest first.  Answers the oldest
+        of each cell, which goes: where there is no place, the cell itself."""
+        oldest = []
+        for first, count, cell in zip(places.first, places.counts, cells):
+            kept = [*store[first:first + count], cell]
+            oldest.append(kept.pop(0))
+            store[first:first + count] = kept
+        return oldest
 
-    def send(self, at, row, store, symbol):
+    def send(self, at, cells, symbol):
         """Writes the symbol on the line."""
-        if row not in at.sources:
-            at.sources[row] = [self.source(at, row, p) for p in range(at.n)]
         line = list(at.marks)
-        for k, source in zip(at.carriers, at.sources[row]):
-            line[k] = store[source]
+        for k, cell in zip(at.carriers, cells):
+            line[k] = cell
         symbol[:] = line
 
-    def fresh_rows(self, at, phase):
-        """The rows of a fresh store.  Row 0 is filler; row M-r holds the
-        symbol r steps back, without data."""
-        rows = [[self.limits.filler_mark] * at.n] * at.m
-        for r in range(1, at.m):
-            rows[at.m - r] = self.input_symbol(at, (phase - r) % self.limits.phases, None)
-        return rows
+    def fresh_places(self, at, phase):
+        """The places of each cell in a fresh store: those of cell p hold cell p of the symbols
+        without data of the last p mod M steps, oldest first."""
+        counts = self.places(at).counts
+        back = {r: self.input_symbol(at, (phase - r) % self.limits.phases, None)
+                for r in range(1, max(counts) + 1)}
+        return [[back[r][p] for r in range(count, 0, -1)] for p, count in enumerate(counts)]
+
+    def fill(self, store, cells):
+        """Writes the store from its first place on."""
+        store[:len(cells)] = cells
 
     def next_phase(self, phase):
         return (phase + 1) % self.limits.phases
-
-    def next_row(self, at, phase, row):
-        return (row + 1) % at.m
 
     # --- grounds -----------------------------------------------------------
     # Each answers its place, or None if it does not hold.
 
     def ground_16(self, at, given):
-        if given.phase >= self.limits.phases:
-            return 0
-        if given.row is not None and given.row >= at.m:
-            return 0
-        return None
+        return 0 if given.phase >= self.limits.phases else None
 
     def ground_17(self, at, given):
-        if given.store is not None and len(given.store) < at.m * at.n:
+        if given.store is not None and len(given.store) < self.places(at, given.end).length:
             return 0
         if given.symbol is not None and len(given.symbol) != self.limits.cells:
             return 0
@@ -232,26 +243,22 @@ class Emitter(Model):
         return self.refusal(plan, Given(phase)) or self.count(self.layout(plan), phase)
 
     def fresh(self, plan, phase, store):
-        """Fills the store: ('fresh', phase, row); or ('refused', number, place)."""
-        refused = self.refusal(plan, Given(phase, store=store))
+        """Fills the store: ('fresh', phase); or ('refused', number, place)."""
+        refused = self.refusal(plan, Given(phase, store))
         if refused:
             return refused
-        at = self.layout(plan)
-        for row, cells in enumerate(self.fresh_rows(at, phase)):
-            self.write(at, row, store, cells)
-        return ('fresh', phase, 0)
+        self.fill(store, list(chain(*self.fresh_places(self.layout(plan), phase))))
+        return ('fresh', phase)
 
-    def step(self, plan, phase, row, store, data, symbol):
-        """One step; data None is a flush.  ('sent', next phase, next row), with
-        store and symbol written; or ('refused', number, place, phase, row),
-        with nothing changed."""
-        refused = self.refusal(plan, Given(phase, row, store, data, symbol))
+    def step(self, plan, phase, store, data, symbol):
+        """One step; data None is a flush.  ('sent', next phase), with store and symbol
+        written; or ('refused', number, place, phase), with nothing changed."""
+        refused = self.refusal(plan, Given(phase, store, data, symbol))
         if refused:
-            return (*refused, phase, row)
+            return (*refused, phase)
         at = self.layout(plan)
-        self.write(at, row, store, self.input_symbol(at, phase, data))
-        self.send(at, row, store, symbol)
-        return ('sent', self.next_phase(phase), self.next_row(at, phase, row))
+        self.send(at, self.move(self.places(at), store, self.input_symbol(at, phase, data)), symbol)
+        return ('sent', self.next_phase(phase))
 
 
 # --- what the paper says ---------------------------------------------------
@@ -264,15 +271,35 @@ def check_plan_a():
     assert [a.ranks[p] for p in (0, 128, 256, 384, 64, 32, 1)] == [0, 1, 2, 3, 4, 7, 213]
     assert a.carriers[1] == 1029
     assert [j for j in range(128) if emitter.is_placeholder(a, 1, j)] == [48]
-    store, symbol = [0] * (4 * 425), [0] * 4096
+    assert emitter.places(a).length == 636
+    store, symbol = [0] * 636, [0] * 4096
     # The emitted symbol that shows cell 1 of the input at phase 48 has phase 49.
-    _, phase, row = emitter.fresh(plans.PLAN_A, 48, store)
+    _, phase = emitter.fresh(plans.PLAN_A, 48, store)
     shown = []
     for _ in range(3):
-        answer = emitter.step(plans.PLAN_A, phase, row, store, None, symbol)
+        answer = emitter.step(plans.PLAN_A, phase, store, None, symbol)
         shown.append((phase, symbol[1029]))
-        _, phase, row = answer
+        _, phase = answer
     assert shown == [(48, 0x8001), (49, 0x8000), (50, 0x8001)]
+
+
+def emitter_length(n, m):
+    """The length of an emitter's store in closed form: whole groups of M cells, and the rest."""
+    rest = n % m
+    return n // m * (m * (m - 1) // 2) + rest * (rest - 1) // 2
+
+
+def check_lengths():
+    """The closed form, and the length that is enough for every plan."""
+    emitter = Emitter()
+    for plan in (plans.PLAN_A, plans.near_a(M=1), plans.near_a(M=3), plans.LARGEST):
+        at = emitter.layout(plan)
+        assert emitter.places(at).length == emitter_length(at.n, at.m)
+    for m in range(1, 33):
+        for n in (1, m, 10 * m, 10 * m + 1, 11 * m - 1):
+            assert emitter_length(n, m) == sum(p % m for p in range(n))
+    longest = max(emitter_length(n, m) for n in range(3746) for m in range(1, 33))
+    assert longest == emitter_length(3745, 32) == 58032
 
 
 def check_counts(plan):
@@ -285,24 +312,28 @@ def check_counts(plan):
 
 def check_run(plan, start, steps):
     """A run whose every data cell is known by its number: cell p of input t is
-    found at its place, and the symbols show the roles."""
+    found at its place, the symbols show the roles, and the places of cell p hold what it
+    was in the last p mod M inputs, those before the start without data."""
     emitter = Emitter()
     at = emitter.layout(plan)
-    store = [7] * (at.m * at.n + 2)
-    assert emitter.fresh(plan, start, store) == ('fresh', start, 0)
-    phase, row = start, 0
-    inputs, sent = [], []
+    length = emitter_length(at.n, at.m)
+    store = [7] * (length + 2)
+    assert emitter.fresh(plan, start, store) == ('fresh', start)
+    phase = start
+    inputs = [emitter.input_symbol(at, (start - r) % 128, None) for r in range(at.m - 1, 0, -1)]
+    sent = []
     for t in range(steps):
-        assert phase == (start + t) % 128 and row == t % at.m
+        assert phase == (start + t) % 128
         count = emitter.data_count(plan, phase)
         data = None if t % 5 == 3 else [(1000 * t + i) % 16384 for i in range(count)]
         symbol = [7] * 4096
-        answer = emitter.step(plan, phase, row, store, data, symbol)
+        answer = emitter.step(plan, phase, store, data, symbol)
         assert answer[0] == 'sent'
         inputs.append(emitter.input_symbol(at, phase, data))
         sent.append(symbol)
-        _, phase, row = answer
-    assert store[at.m * at.n:] == [7, 7]
+        _, phase = answer
+        kept = [cells[p] for p in range(at.n) for cells in inputs[len(inputs) - p % at.m:]]
+        assert store == kept + [7, 7]
     marks = {'excluded': 0x8002, 'plc': 0x8004, 'continuous': 0x8003, 'scattered': 0x8000}
     judged = emitter.judge
     emitter.judge = lambda _, p=judged(plan): p
@@ -310,9 +341,9 @@ def check_run(plan, start, steps):
         for k, cell in enumerate(symbol):
             role = emitter.role(plan, k, (start + t) % 128)
             assert cell == marks[role] if role != 'data' else cell < 16384 or cell == 0x8001
-    for t, cells in enumerate(inputs):
+    for t, cells in enumerate(inputs, 1 - at.m):
         for p, cell in enumerate(cells):
-            if t + p % at.m < steps:
+            if 0 <= t + p % at.m < steps:
                 assert sent[t + p % at.m][at.carriers[p]] == cell
 
 
@@ -323,28 +354,26 @@ def check_grounds():
     count = emitter.data_count(a, 5)
     good = [3] * count
     bad = [3] * (count - 1) + [16384]
-    need = 4 * 425
+    need = 636
 
-    def step(want, phase=5, row=1, size=need, data=good, cells=4096, plan=a):
+    def step(want, phase=5, size=need, data=good, cells=4096, plan=a):
         store, symbol, lent = [9] * size, [9] * cells, None if data is None else list(data)
-        answer = emitter.step(plan, phase, row, store, lent, symbol)
+        answer = emitter.step(plan, phase, store, lent, symbol)
         if want == 'sent':
-            assert answer == ('sent', (phase + 1) % 128, (row + 1) % 4)
+            assert answer == ('sent', (phase + 1) % 128)
         else:
-            assert answer == ('refused', *want, phase, row), answer
+            assert answer == ('refused', *want, phase), answer
             assert store == [9] * size and symbol == [9] * cells
         assert lent == (None if data is None else data)
 
     step('sent')
     step('sent', size=need + 5)
-    step('sent', row=3)
     step('sent', data=None)
     step('sent', data=[16383] * count)
-    step((1, 0), plan=b'', phase=128, row=32, size=0, data=bad[1:], cells=0)
-    step((16, 0), phase=128, row=4, size=0, data=bad[1:], cells=0)
+    step((1, 0), plan=b'', phase=128, size=0, data=bad[1:], cells=0)
+    step((16, 0), phase=128, size=0, data=bad[1:], cells=0)
     step((16, 0), phase=128, data=None)
-    step((16, 0), row=4)
-    step((16, 0), row=4, data=bad)
+    step((16, 0), phase=2 ** 32 - 1, data=bad)
     step((17, 0), size=need - 1)
     step((17, 0), cells=4095, data=None)
     step((17, 0), cells=4097)
@@ -359,7 +388,8 @@ def check_grounds():
     step((19, 0), data=[32768] + good[1:])
     assert emitter.fresh(a, 128, []) == ('refused', 16, 0)
     assert emitter.fresh(a, 127, [9] * (need - 1)) == ('refused', 17, 0)
-    assert emitter.fresh(a, 127, [9] * need) == ('fresh', 127, 0)
+    assert emitter.fresh(a, 127, [9] * need) == ('fresh', 127)
+    assert emitter.fresh(plans.near_a(M=1), 127, []) == ('fresh', 127)     # no cell is delayed
     assert emitter.fresh(b'', 128, []) == ('refused', 1, 0)
     assert emitter.data_count(a, 128) == ('refused', 16, 0)
     assert emitter.data_count(b'', 128) == ('refused', 1, 0)
@@ -370,6 +400,7 @@ def check_facts():
     check_counts(plans.PLAN_A)
     check_counts(plans.LARGEST)
     check_counts(plans.SINGLES_150)
+    check_lengths()
     check_run(plans.PLAN_A, 0, 9)
     check_run(plans.near_a(M=3), 125, 9)
     check_run(plans.near_a(M=1), 127, 3)

@@ -26,12 +26,12 @@ static const struct {
     uint32_t value;
 } NAMES[] = {
     NAME(HEADEND_VERSION),
-    NAME(HEADEND_ANSWER_BYTES), NAME(HEADEND_PLACE), NAME(HEADEND_PHASE), NAME(HEADEND_ROW), NAME(HEADEND_HEARD), NAME(HEADEND_VALUE),
+    NAME(HEADEND_ANSWER_BYTES), NAME(HEADEND_PLACE), NAME(HEADEND_PHASE), NAME(HEADEND_HEARD), NAME(HEADEND_VALUE),
     NAME(HEADEND_EXCLUDED), NAME(HEADEND_PLC), NAME(HEADEND_CONTINUOUS), NAME(HEADEND_SCATTERED), NAME(HEADEND_DATA),
     NAME(HEADEND_CELL_DATA_MAX), NAME(HEADEND_CELL_SCATTERED), NAME(HEADEND_CELL_FILLER), NAME(HEADEND_CELL_EXCLUDED),
     NAME(HEADEND_CELL_CONTINUOUS), NAME(HEADEND_CELL_PLC),
     NAME(HEADEND_SUBCARRIERS), NAME(HEADEND_PHASES), NAME(HEADEND_DEPTH_MAX), NAME(HEADEND_PLAN_BYTES_MAX), NAME(HEADEND_SYMBOL_BYTES),
-    NAME(HEADEND_STORE_BYTES_MAX), NAME(HEADEND_DATA_BYTES_MAX), NAME(HEADEND_STACK_BYTES),
+    NAME(HEADEND_EMITTER_STORE_BYTES_MAX), NAME(HEADEND_RECEIVER_STORE_BYTES_MAX), NAME(HEADEND_DATA_BYTES_MAX), NAME(HEADEND_STACK_BYTES),
     NAME(HEADEND_ACCEPTED), NAME(HEADEND_REFUSED_PLAN_LENGTH), NAME(HEADEND_REFUSED_RECORD_KIND), NAME(HEADEND_REFUSED_NEXT_INDEX),
     NAME(HEADEND_REFUSED_RECORD_NUMBERS), NAME(HEADEND_REFUSED_PILOT_COUNT), NAME(HEADEND_REFUSED_ACTIVE_OUTSIDE),
     NAME(HEADEND_REFUSED_EXCLUDED_AROUND_PLC), NAME(HEADEND_REFUSED_PILOT_TAKEN), NAME(HEADEND_REFUSED_NARROW_BAND),
@@ -41,10 +41,11 @@ static const struct {
     NAME(HEADEND_REFUSED_DATA_CELL), NAME(HEADEND_REFUSED_ARRIVING_CELL), NAME(HEADEND_REFUSED_BUFFER_BYTES),
 };
 
-enum { SLOTS = 7, BUFFERS = 5, NUMBERS = 3, GUARD = 64, GUARD_BYTE = 0x5A, PAGE = 65536, ROOM = 1 << 21, GROUNDS = 21, STACK = 1 << 20 };
+enum { SLOTS = 7, BUFFERS = 5, NUMBERS = 2, GUARD = 64, GUARD_BYTE = 0x5A, PAGE = 65536, ROOM = 1 << 21, GROUNDS = 21, STACK = 1 << 20 };
 enum { JUDGE, ROLE, DATA_COUNT, FRESH_EMITTER, FRESH_RECEIVER, EMIT, FLUSH, RECEIVE, CALLS };
 enum { GUARDED, OWN_BLOCK, PAGE_BEHIND, PAGE_BEFORE, NULL_IF_EMPTY, WAYS };
-enum { NUMBER, CELL, PUT_CELL, LOWEST_PLC, DEPTH, MARK, SYMBOL_PHASE }; /* the helpers */
+/* The helpers. */
+enum { NUMBER, CELL, PUT_CELL, LOWEST_PLC, DEPTH, EMITTER_STORE_BYTES, RECEIVER_STORE_BYTES, MARK, SYMBOL_PHASE };
 
 static const struct {
     const char *name;
@@ -56,9 +57,9 @@ static const struct {
     {"data_count", 1, 2, {"plan", "answer"}},
     {"fresh_emitter", 1, 3, {"plan", "store", "answer"}},
     {"fresh_receiver", 1, 3, {"plan", "store", "answer"}},
-    {"emit", 2, 5, {"plan", "store", "data", "symbol", "answer"}},
-    {"flush", 2, 4, {"plan", "store", "symbol", "answer"}},
-    {"receive", 3, 5, {"plan", "store", "symbol", "data", "answer"}},
+    {"emit", 1, 5, {"plan", "store", "data", "symbol", "answer"}},
+    {"flush", 1, 4, {"plan", "store", "symbol", "answer"}},
+    {"receive", 2, 5, {"plan", "store", "symbol", "data", "answer"}},
 };
 
 static const char *const WAY[WAYS] = {"between guard bytes", "in its own block", "with a page behind", "with a page before",
@@ -226,6 +227,8 @@ static uint32_t help(unsigned which, uint8_t *bytes, const uint8_t *other, uint3
     case PUT_CELL: headend_put_cell(bytes, a, b); return 0;
     case LOWEST_PLC: return headend_lowest_plc(bytes);
     case DEPTH: return headend_depth(bytes);
+    case EMITTER_STORE_BYTES: return (uint32_t)headend_emitter_store_bytes(a, b);
+    case RECEIVER_STORE_BYTES: return (uint32_t)headend_receiver_store_bytes(a, b);
     case MARK: return headend_mark(a);
     case SYMBOL_PHASE: return headend_symbol_phase(bytes, other);
     default: fail("no helper %u", which);
@@ -334,11 +337,11 @@ static uint32_t make_call(const struct call *c, const struct lent *b)
     case FRESH_RECEIVER:
         return headend_fresh_receiver(b[0].at, len[0], n[0], b[1].at, len[1], b[2].at, len[2]);
     case EMIT:
-        return headend_emit(b[0].at, len[0], n[0], n[1], b[1].at, len[1], b[2].at, len[2], b[3].at, len[3], b[4].at, len[4]);
+        return headend_emit(b[0].at, len[0], n[0], b[1].at, len[1], b[2].at, len[2], b[3].at, len[3], b[4].at, len[4]);
     case FLUSH:
-        return headend_flush(b[0].at, len[0], n[0], n[1], b[1].at, len[1], b[2].at, len[2], b[3].at, len[3]);
+        return headend_flush(b[0].at, len[0], n[0], b[1].at, len[1], b[2].at, len[2], b[3].at, len[3]);
     default:
-        return headend_receive(b[0].at, len[0], n[0], n[1], n[2], b[1].at, len[1], b[2].at, len[2], b[3].at, len[3], b[4].at, len[4]);
+        return headend_receive(b[0].at, len[0], n[0], n[1], b[1].at, len[1], b[2].at, len[2], b[3].at, len[3], b[4].at, len[4]);
     }
 }
 

@@ -6,7 +6,7 @@
 
 Every number and byte that is expected comes from the second model (model.py, emitter.py,
 receiver.py), read as change request 01 says: two bytes a cell, high byte first, ground 21 before
-all others, five numbers of four bytes in the answer.
+all others, four numbers of four bytes in the answer.
 
 A case file is a list of items; a number is four bytes, high byte first.  Slots 0 to 6 hold the
 buffers: 0 the plan, 1 an emitter's store, 2 a receiver's, 3 data to be sent, 4 the symbol, 5 data
@@ -40,13 +40,14 @@ sys.dont_write_bytecode = True
 import compare
 import loss
 import plans
-from receiver import Receiver
+from emitter import emitter_length
+from receiver import Receiver, receiver_length
 from stored import ROOT
 
-ANSWER = 20
+ANSWER = 16
 SYMBOL = 4096
 TOP = 2 ** 32 - 1
-ODD_NUMBERS = (0x12345678, 0x9ABCDEF0, 0x0F2E4D6C)      # no byte as another
+ODD_NUMBERS = (0x12345678, 0x9ABCDEF0)      # no byte as another
 BLOCK = 256
 PLAN, SENDING, LISTENING, GIVEN, LINE, HANDED, SAID = range(7)
 ROLES = ('excluded', 'plc', 'continuous', 'scattered', 'data')
@@ -58,13 +59,14 @@ CALLS = {
     'data_count': (1, 'plan answer', 0, {*range(1, 17), 21}),
     'fresh_emitter': (1, 'plan store answer', 0, {*range(1, 18), 21}),
     'fresh_receiver': (1, 'plan store answer', 0, {*range(1, 18), 21}),
-    'emit': (2, 'plan store data symbol answer', 2, {*range(1, 20), 21}),
-    'flush': (2, 'plan store symbol answer', 2, {*range(1, 18), 21}),
-    'receive': (3, 'plan store symbol data answer', 3, {*range(1, 18), 20, 21}),
+    'emit': (1, 'plan store data symbol answer', 1, {*range(1, 20), 21}),
+    'flush': (1, 'plan store symbol answer', 1, {*range(1, 18), 21}),
+    'receive': (2, 'plan store symbol data answer', 2, {*range(1, 18), 20, 21}),
 }
 
 BUFFERS = [(name, key) for name, (_, buffers, *_) in CALLS.items() for key in buffers.split()]
-HELPERS = ('number', 'cell', 'put_cell', 'lowest_plc', 'depth', 'mark', 'symbol_phase')
+HELPERS = ('number', 'cell', 'put_cell', 'lowest_plc', 'depth', 'emitter_store_bytes', 'receiver_store_bytes',
+           'mark', 'symbol_phase')
 HEADER = ROOT / 'include' / 'headend.h'
 GROUNDS = ('PLAN_LENGTH', 'RECORD_KIND', 'NEXT_INDEX', 'RECORD_NUMBERS', 'PILOT_COUNT', 'ACTIVE_OUTSIDE',
            'EXCLUDED_AROUND_PLC', 'PILOT_TAKEN', 'NARROW_BAND', 'NO_WIDE_BAND', 'EXCLUDED_IN_SPAN',
@@ -119,8 +121,8 @@ class Interface(Receiver):
 
     def said(self, given, place, state=(), value=0):
         """The buffers with the answer written."""
-        five = [place, *(*state, 0, 0, 0)[:3], value]
-        return {**given, 'answer': b''.join(map(number, five)) + given['answer'][ANSWER:]}
+        four = [place, *(*state, 0, 0)[:2], value]
+        return {**given, 'answer': b''.join(map(number, four)) + given['answer'][ANSWER:]}
 
     # Each is given cells and answers the model's refusal, or the next state and a value.
 
@@ -144,18 +146,18 @@ class Interface(Receiver):
         answer = self.listen(plan, phase, store)
         return answer if answer[0] == 'refused' else (answer[1:], 0)
 
-    def call_emit(self, plan, phase, row, store, data, symbol):
-        answer = self.step(plan, phase, row, store, data, symbol)
+    def call_emit(self, plan, phase, store, data, symbol):
+        answer = self.step(plan, phase, store, data, symbol)
         return answer if answer[0] == 'refused' else (answer[1:], 0)
 
-    def call_flush(self, plan, phase, row, store, symbol):
-        return self.call_emit(plan, phase, row, store, None, symbol)
+    def call_flush(self, plan, phase, store, symbol):
+        return self.call_emit(plan, phase, store, None, symbol)
 
-    def call_receive(self, plan, phase, row, heard, store, symbol, data):
-        answer = self.receive(plan, phase, row, heard, store, symbol, data)
+    def call_receive(self, plan, phase, heard, store, symbol, data):
+        answer = self.receive(plan, phase, heard, store, symbol, data)
         if answer[0] == 'refused':
             return answer
-        return answer[-3:], answer[1] if answer[0] == 'data' else 0
+        return answer[-2:], answer[1] if answer[0] == 'data' else 0
 
 
 # --- the case file ---------------------------------------------------------
@@ -265,6 +267,11 @@ def at_depth(plan, m):
     return plans.second(plan, 0, m)
 
 
+def value_of(answer):
+    """The last of the four numbers."""
+    return int.from_bytes(answer[12:16], 'big')
+
+
 class Link:
     """An emitter and a receiver of one plan, and the line between."""
 
@@ -272,18 +279,18 @@ class Link:
         self.cases, self.plan = cases, plan
         self.rng = random.Random(seed)
         self.at = cases.model.layout(plan)
-        self.need = self.at.m * self.at.n
+        self.needs = {end: cases.model.places(self.at, end).length for end in ('emitter', 'receiver')}
         self.symbol = some_bytes(self.rng, SYMBOL)
-        store = some_bytes(self.rng, self.need, spare)
+        store = some_bytes(self.rng, self.needs['emitter'], spare)
         _, after = self.cases.call('fresh_emitter', start, plan=plan, store=store)
-        self.sending, self.sender = after['store'], self.next_state(after['answer'], 2)
+        self.sending, self.sender = after['store'], self.next_state(after['answer'], 1)
         self.listen(2 * spare)
 
     def listen(self, spare):
         """A receiver that hears the symbols sent from here on."""
-        store = some_bytes(self.rng, self.need, spare)
+        store = some_bytes(self.rng, self.needs['receiver'], spare)
         _, after = self.cases.call('fresh_receiver', self.sender[0], plan=self.plan, store=store)
-        self.listening, self.state = after['store'], self.next_state(after['answer'], 3)
+        self.listening, self.state = after['store'], self.next_state(after['answer'], 2)
         self.sent, self.t = [], 0       # inputs, and symbols heard, since
 
     def next_state(self, answer, numbers):
@@ -302,7 +309,7 @@ class Link:
 
     def receive(self, **other):
         count = self.cases.model.count(self.at, self.cases.model.input_phase(self.at, self.state[0]))
-        warming = self.state[2] < self.at.m - 1     # then a data buffer of any length will do
+        warming = self.state[1] < self.at.m - 1     # then a data buffer of any length will do
         room = self.rng.choice((0, 1, count - 1, count)) if warming else count + self.rng.choice((0, 0, 1, 50))
         given = {'plan': self.plan, 'store': self.listening, 'symbol': self.symbol, **other}
         given.setdefault('data', some_bytes(self.rng, room))
@@ -315,54 +322,60 @@ class Link:
         self.sending, self.symbol = after['store'], after['symbol']
         count = self.cases.model.count(self.at, self.sender[0])
         self.sent.append(b'\x80\x01' * count if flush else after['data'])
-        self.sender = self.next_state(after['answer'], 2)
+        self.sender = self.next_state(after['answer'], 1)
 
     def hear(self):
         """What is received is what was sent M - 1 symbols before."""
         returned, after = self.receive()
         assert returned == 0
-        count = int.from_bytes(after['answer'][16:20], 'big')
+        count = value_of(after['answer'])
         want = self.sent[self.t - self.at.m + 1] if self.t >= self.at.m - 1 else b''
         assert after['data'][:2 * count] == want
         self.listening = after['store']
-        self.state = self.next_state(after['answer'], 3)
+        self.state = self.next_state(after['answer'], 2)
         self.t += 1
+
+    def short_stores(self, end, store):
+        """What is wrong with the store of an end: too short, and so not at depth 1, or of odd length."""
+        need = self.needs[end]
+        if need > 0:
+            yield from (({'store': store[:2 * need - 2]}, 17), ({'store': b''}, 17), ({'store': store[:2 * need - 1]}, 21))
+        yield {'store': store + b'\0'}, 21
 
     def wrong_sends(self):
         """(what is other, the number that refuses it) of an emit."""
-        phase, row = self.sender
-        count, m = self.cases.model.count(self.at, phase), self.at.m
+        phase, = self.sender
+        count = self.cases.model.count(self.at, phase)
         good = some_data(self.rng, count)
-        short = self.sending[:2 * self.need - 2]
+        yield from self.short_stores('emitter', self.sending)
+        yield from (({**short, 'data': good[2:]}, want) for short, want in self.short_stores('emitter', self.sending))
         yield from (({'data': good[2:]}, 18), ({'data': good + b'\0\0'}, 18), ({'data': b''}, 18),
                     ({'data': with_cell(good, count // 2, 16384)}, 19),
                     ({'data': with_cell(good, 0, 0x8001)}, 19),
                     ({'data': with_cell(good, count - 1, 65535)}, 19),
-                    ({'state': (phase, m)}, 16), ({'state': (128, row)}, 16),
-                    ({'state': (TOP, TOP), 'data': b''}, 16), ({'state': ODD_NUMBERS[:2]}, 16),
-                    ({'store': short}, 17), ({'store': b''}, 17),
+                    ({'state': (128,)}, 16), ({'state': (phase + 128,)}, 16),
+                    ({'state': (TOP,), 'data': b''}, 16), ({'state': ODD_NUMBERS[:1]}, 16),
                     ({'symbol': self.symbol[2:]}, 17), ({'symbol': self.symbol + b'\0\0'}, 17),
-                    ({'store': short, 'data': good[2:]}, 17),
                     ({'data': with_cell(good[2:], 0, 16384)}, 18),
-                    ({'store': self.sending[:-1]}, 21), ({'data': good[1:]}, 21),
+                    ({'data': good[1:]}, 21),
                     ({'symbol': self.symbol[:-1]}, 21), ({'symbol': b'\0'}, 21),
-                    ({'data': good + b'\0', 'state': (128, m)}, 21))
-        for room in (0, 1, 19):
-            yield {'answer': b'\x5A' * room, 'state': (128, TOP)}, 21
+                    ({'data': good + b'\0', 'state': (128,)}, 21))
+        for room in (0, 1, ANSWER - 1):
+            yield {'answer': b'\x5A' * room, 'state': (TOP,)}, 21
             yield {'answer': b'\x5A' * room}, 21
 
     def wrong_receives(self):
         """The same of a receive step."""
-        phase, row, heard = self.state
+        phase, heard = self.state
         m, symbol = self.at.m, self.symbol
-        yield from (({'state': (phase, m, heard)}, 16), ({'state': (phase, row, m)}, 16),
-                    ({'state': (128, row, heard)}, 16), ({'state': (TOP, TOP, TOP)}, 16),
+        yield from self.short_stores('receiver', self.listening)
+        yield from (({'state': (phase, m)}, 16), ({'state': (phase + 128, heard)}, 16),
+                    ({'state': (128, heard)}, 16), ({'state': (TOP, TOP)}, 16),
                     ({'state': ODD_NUMBERS}, 16),
-                    ({'store': self.listening[:2 * self.need - 2]}, 17), ({'store': b''}, 17),
                     ({'symbol': symbol[2:]}, 17), ({'symbol': symbol + b'\x80\x02'}, 17),
-                    ({'store': self.listening[:-1]}, 21), ({'symbol': symbol[:-1]}, 21),
+                    ({'symbol': symbol[:-1]}, 21),
                     ({'data': b'\0'}, 21), ({'data': bytes(9999)}, 21),
-                    ({'symbol': b'\0', 'state': (phase, m, heard)}, 21),
+                    ({'symbol': b'\0', 'state': (phase, m)}, 21),
                     ({'symbol': with_cell(symbol, 4095, 0x8003)}, 20),
                     ({'symbol': with_cell(with_cell(symbol, 4095, 0), 0, 0x8001)}, 20))
         if heard == m - 1:
@@ -375,8 +388,8 @@ class Link:
             turn = self.rng.randrange(SYMBOL)
             k = (turn + (marks[turn:] + marks[:turn]).index(mark)) % SYMBOL
             yield {'symbol': with_cell(symbol, k, cell)}, 20
-        for room in (0, 1, 19):
-            yield {'answer': b'\x5A' * room, 'state': (TOP, row, TOP)}, 21
+        for room in (0, 1, ANSWER - 1):
+            yield {'answer': b'\x5A' * room, 'state': (TOP, TOP)}, 21
             yield {'answer': b'\x5A' * room}, 21
 
     def refused(self, step, wrongs, some):
@@ -407,14 +420,15 @@ def names_of(limits):
     """What each name of the header has to be."""
     marks = {'SCATTERED': limits.scattered_mark, 'FILLER': limits.filler_mark, 'EXCLUDED': limits.excluded_mark,
              'CONTINUOUS': limits.continuous_mark, 'PLC': limits.plc_mark, 'DATA_MAX': limits.last_data}
-    five = ('PLACE', 'PHASE', 'ROW', 'HEARD', 'VALUE')
-    store = limits.highest_m * limits.most_ranks
-    return {'VERSION': 2, 'ANSWER_BYTES': ANSWER, **{name: 4 * i for i, name in enumerate(five)},
+    four = ('PLACE', 'PHASE', 'HEARD', 'VALUE')
+    largest = {'EMITTER': emitter_length, 'RECEIVER': receiver_length}
+    return {'VERSION': 3, 'ANSWER_BYTES': ANSWER, **{name: 4 * i for i, name in enumerate(four)},
             **{name.upper(): 1 + i for i, name in enumerate(ROLES)},
             **{'CELL_' + name: mark for name, mark in marks.items()},
             'SUBCARRIERS': limits.last_subcarrier + 1, 'PHASES': limits.phases, 'DEPTH_MAX': limits.highest_m,
-            'PLAN_BYTES_MAX': limits.longest, 'SYMBOL_BYTES': 2 * limits.cells, 'STORE_BYTES_MAX': 2 * store,
-            'DATA_BYTES_MAX': 2 * limits.most_ranks, 'STACK_BYTES': 131072, 'ACCEPTED': 0,
+            'PLAN_BYTES_MAX': limits.longest, 'SYMBOL_BYTES': 2 * limits.cells,
+            **{end + '_STORE_BYTES_MAX': 2 * length(limits.most_ranks, limits.highest_m)
+               for end, length in largest.items()}, 'DATA_BYTES_MAX': 2 * limits.most_ranks, 'STACK_BYTES': 131072, 'ACCEPTED': 0,
             **{'REFUSED_' + name: 1 + i for i, name in enumerate(GROUNDS)}}
 
 
@@ -432,8 +446,8 @@ def helpers(cases, phases):
     """The helpers of the header, on bytes that are no palindromes, and on symbols of all phases."""
     cases.name('the helpers of the header')
     rng, model = random.Random(8), cases.model
-    cases.hold(SAID, b''.join(map(number, (*ODD_NUMBERS, 0x00FF10EF, TOP))))
-    for i, n in enumerate((*ODD_NUMBERS, 0x00FF10EF, TOP)):
+    cases.hold(SAID, b''.join(map(number, (*ODD_NUMBERS, 0x00FF10EF, 0x0F2E4D6C, TOP))))
+    for i, n in enumerate((*ODD_NUMBERS, 0x00FF10EF, 0x0F2E4D6C, TOP)):
         cases.helper('number', SAID, 4 * i, want=n)
     cells = [0, 1, 255, 256, 16383, 16384, 0x8001, 65535, *(rng.randrange(65536) for _ in range(20))]
     cases.hold(GIVEN, to_bytes(cells))
@@ -444,6 +458,10 @@ def helpers(cases, phases):
     marks = names_of(model.limits)
     for i, role in enumerate(('EXCLUDED', 'PLC', 'CONTINUOUS', 'SCATTERED', 'FILLER')):
         cases.helper('mark', GIVEN, 1 + i, want=marks['CELL_' + role])
+    for m in range(1, 33):
+        for n in (282, 425, 32 * m, 100 * m + m // 2, 3744, 3745):
+            cases.helper('emitter_store_bytes', SAID, n, m, want=2 * sum(p % m for p in range(n)))
+            cases.helper('receiver_store_bytes', SAID, n, m, want=2 * sum(m - 1 - p % m for p in range(n)))
     for plan in (plans.PLAN_A, (ROOT / loss.NO_SCATTERED).read_bytes(), at_depth(plans.LARGEST, 31)):
         at = model.layout(plan)
         cases.hold(PLAN, plan)
@@ -493,13 +511,13 @@ def refused_plans(cases):
         for name, (takes, buffers, *_) in CALLS.items():
             cases.name('%s refused by %d' % (name, ground))
             # Good buffers of Plan A, then short ones and numbers out of range.
-            for cells, n in (({'store': 1700, 'data': 421, 'symbol': SYMBOL}, 3), ({}, TOP)):
+            for cells, n in (({'store': 639, 'data': 421, 'symbol': SYMBOL}, 3), ({}, TOP)):
                 given = {key: some_bytes(rng, cells.get(key, 2)) for key in buffers.split()[1:-1]}
                 assert cases.call(name, *[n] * takes, plan=plan, **given)[0] == ground
             for odd in given:
                 bad = {**given, odd: given[odd] + b'\0'}
                 assert cases.call(name, *[5] * takes, plan=plan, **bad)[0] == 21
-            for room in (0, 1, 19):
+            for room in (0, 1, ANSWER - 1):
                 given['answer'] = b'\x5A' * room
                 assert cases.call(name, *[5] * takes, plan=plan, **given)[0] == 21
 
@@ -510,18 +528,44 @@ def lent_rooms(cases):
     for plan in (plans.PLAN_A, plans.near_a(M=1), plans.near_a([(850, 853)], [900], M=31)):
         cases.name('fresh starts')
         at = cases.model.layout(plan)
-        for name in ('fresh_emitter', 'fresh_receiver'):
+        for end in ('emitter', 'receiver'):
+            name, need = 'fresh_' + end, cases.model.places(at, end).length
             for phase in (0, 1, at.m - 1, 64, 126, 127):
                 for spare in (0, 1, 500):
-                    store = some_bytes(rng, at.m * at.n, spare)
-                    room = rng.choice((20, 21, 64, 1000))
+                    store = some_bytes(rng, need, spare)
+                    room = rng.choice((ANSWER, ANSWER + 1, 64, 1000))
                     assert cases.call(name, phase, plan=plan, store=store, answer=rng.randbytes(room))[0] == 0
-            store = some_bytes(rng, at.m * at.n)
-            for phase, lent, want in ((128, store, 16), (TOP, b'', 16), (5, store[2:], 17), (5, b'', 17),
-                                      (5, store[:-1], 21), (5, store + b'\0', 21), (TOP, b'\0', 21)):
+            store = some_bytes(rng, need)
+            short = ((5, store[2:], 17), (5, b'', 17), (5, store[:-1], 21)) if need > 0 else ()
+            for phase, lent, want in (*short, (128, store, 16), (TOP, b'', 16), (5, store + b'\0', 21),
+                                      (TOP, b'\0', 21)):
                 assert cases.call(name, phase, plan=plan, store=lent)[0] == want
-            for room in (0, 1, 19):
+            for room in (0, 1, ANSWER - 1):
                 assert cases.call(name, 5, plan=plan, store=store, answer=bytes(room))[0] == 21
+
+
+def store_lengths(cases, depths):
+    """Every call that is lent a store, at both sides of the least length of its end, of plans with N_I a
+    multiple of M and not."""
+    rng = random.Random(10)
+    for m in depths:
+        for plan in (plans.near_a(M=m), plans.near_a(pilots=range(1060, 1060 + 425 % m), M=m)):
+            at, phase = cases.model.layout(plan), rng.randrange(128)
+            cases.name('stores at depth %d with N_I %d' % (m, at.n))
+            full = {'plan': plan, 'symbol': to_bytes([5 if mark is None else mark
+                                                      for mark in cases.model.marks_at(at, phase)])}
+            lengths = {end: cases.model.places(at, end).length for end in ('emitter', 'receiver')}
+            for name, (takes, buffers, *_) in CALLS.items():
+                if 'store' not in buffers:
+                    continue
+                need = lengths['receiver' if 'receive' in name else 'emitter']
+                sizes = {need, need + 1, need - 1, *lengths.values()} - {-1}
+                data = some_data(rng, cases.model.count(at, phase)) if name == 'emit' else some_bytes(rng, at.n)
+                for size in sorted(sizes):
+                    given = {**full, 'data': data, 'store': some_bytes(rng, size), 'answer': bytes(ANSWER)}
+                    returned, _ = cases.call(name, *(phase, m - 1)[:takes],
+                                             **{key: given[key] for key in buffers.split()})
+                    assert returned == (17 if size < need else 0), (name, size, need, returned)
 
 
 def any_states(cases, depths):
@@ -532,14 +576,15 @@ def any_states(cases, depths):
             cases.name('any state at depth %d' % m)
             at = cases.model.layout(plan)
             for phase in (0, 127, rng.randrange(128)):
-                row, heard = rng.randrange(m), rng.choice((0, m - 1))
+                heard = rng.choice((0, m - 1))
                 line = to_bytes([rng.choice((0x8001, rng.randrange(16384))) if mark is None else mark
                                  for mark in cases.model.marks_at(at, phase)])
-                store, room = some_bytes(rng, m * at.n, 7), some_bytes(rng, SYMBOL)
+                store = some_bytes(rng, receiver_length(at.n, m), 7)    # the longer of the two
+                room = some_bytes(rng, SYMBOL)
                 data = some_data(rng, cases.model.count(at, phase))
-                assert cases.call('emit', phase, row, plan=plan, store=store, data=data, symbol=room)[0] == 0
-                assert cases.call('flush', phase, row, plan=plan, store=store, symbol=room)[0] == 0
-                assert cases.call('receive', phase, row, heard, plan=plan, store=store, symbol=line,
+                assert cases.call('emit', phase, plan=plan, store=store, data=data, symbol=room)[0] == 0
+                assert cases.call('flush', phase, plan=plan, store=store, symbol=room)[0] == 0
+                assert cases.call('receive', phase, heard, plan=plan, store=store, symbol=line,
                                   data=some_bytes(rng, at.n))[0] == 0
 
 
@@ -580,14 +625,14 @@ def empty_buffers(cases):
         full = {'plan': plan, 'store': link.listening if hears else link.sending, 'data': data, 'symbol': link.symbol,
                 'answer': bytes(ANSWER)}
         full = {key: full[key] for key in buffers.split()}
-        numbers = (60, 0, 0)[:takes]
+        numbers = (60, 0)[:takes]
         assert cases.call(name, *numbers, **full)[0] == 0
         for key in full:
             want = 0 if (name, key) == ('receive', 'data') else refused[key]     # warming, any data buffer will do
             assert cases.call(name, *numbers, **{**full, key: b''})[0] == want
         assert cases.call(name, *numbers, **dict.fromkeys(full, b''))[0] == 21
         assert cases.call(name, *numbers, **{**dict.fromkeys(full, b''), 'answer': bytes(ANSWER)})[0] == 1
-    assert cases.call('receive', 61, 1, 1, **{**full, 'data': b''})[0] == 17     # not warming
+    assert cases.call('receive', 61, 1, **{**full, 'data': b''})[0] == 17     # not warming
 
 
 def losses(cases):
@@ -602,9 +647,9 @@ def losses(cases):
             continue
         assert returned == 0
         returned, after = link.receive()
-        count = int.from_bytes(after['answer'][16:20], 'big')
+        count = value_of(after['answer'])
         wrong += count > 0 and after['data'][:2 * count] != link.sent[link.t - link.at.m + 1][:2 * count]
-        link.listening, link.state, link.t = after['store'], link.next_state(after['answer'], 3), link.t + 1
+        link.listening, link.state, link.t = after['store'], link.next_state(after['answer'], 2), link.t + 1
     assert (returned, wrong, link.state[0]) == (20, 9, 75), (returned, wrong, link.state)
     cases.name('a receiver that starts afresh')
     link.listen(0)
@@ -626,7 +671,7 @@ def losses(cases):
     for symbol in (wrong, link.symbol):
         returned, after = link.receive(symbol=symbol)
         assert returned == 0
-        link.listening, link.state = after['store'], link.next_state(after['answer'], 3)
+        link.listening, link.state = after['store'], link.next_state(after['answer'], 2)
 
 
 def check_words():
@@ -643,13 +688,13 @@ def check_words():
 def check_page():
     """The four answers that docs/C-HOST.md shows."""
     model, a, page = Interface(), plans.PLAN_A, (ROOT / 'docs' / 'C-HOST.md').read_text()
-    count = model.data_count(a, 127)
-    steps = {'plan': a, 'store': bytes(3400), 'symbol': bytes(2 * SYMBOL)}
+    count = model.data_count(a, 126)
+    steps = {'plan': a, 'store': bytes(2 * 636), 'symbol': bytes(2 * SYMBOL)}
     data = bytes(2 * count)
     for name, numbers, given in (('judge', (), {'plan': a}),
                                  ('judge', (), {'plan': plans.near_a([(850, 854)])}),
-                                 ('emit', (127, 0), {**steps, 'data': with_cell(data, 7, 16384)}),
-                                 ('emit', (127, 0), {**steps, 'data': data})):
+                                 ('emit', (126,), {**steps, 'data': with_cell(data, 7, 16384)}),
+                                 ('emit', (126,), {**steps, 'data': data})):
         returned, after = model.call(name, numbers, {**given, 'answer': bytes(ANSWER)})
         shown = '| %d | `%s`' % (returned, after['answer'].hex(' ', 4).upper())
         assert shown in page, 'docs/C-HOST.md should have ' + shown
@@ -671,6 +716,7 @@ def write(path, small):
     counts(cases, (0, 1, 63, 127) if small else range(128))
     refused_plans(cases)
     lent_rooms(cases)
+    store_lengths(cases, (1, 2, 31) if small else (1, 2, 3, 4, 7, 31, 32))
     empty_buffers(cases)
     losses(cases)
     any_states(cases, (1, 31) if small else (1, 2, 3, 4, 7, 16, 31, 32))

@@ -63,9 +63,9 @@ void ignored(uint8_t *b)
     headend_data_count(b, 0, 0, b, 0);
     headend_fresh_emitter(b, 0, 0, b, 0, b, 0);
     headend_fresh_receiver(b, 0, 0, b, 0, b, 0);
-    headend_emit(b, 0, 0, 0, b, 0, b, 0, b, 0, b, 0);
-    headend_flush(b, 0, 0, 0, b, 0, b, 0, b, 0);
-    headend_receive(b, 0, 0, 0, 0, b, 0, b, 0, b, 0, b, 0);
+    headend_emit(b, 0, 0, b, 0, b, 0, b, 0, b, 0);
+    headend_flush(b, 0, 0, b, 0, b, 0, b, 0);
+    headend_receive(b, 0, 0, 0, b, 0, b, 0, b, 0, b, 0);
 }
 END
     local warned

@@ -13,13 +13,14 @@ emitter and a fresh receiver, then symbols t = 0 to 2 M + 2.  With kind = (s + t
 j the phase and nd = N_D at j, each symbol has four steps:
 
 1. A wrong send: 0 emit nd - 1 cells, 1 emit nd + 1 cells, 2 emit with the cell at
-   nd // 2 put to 16384, 3 emit with row M, 4 flush with phase 128, 5 flush into 4,095
-   cells, 6 emit with one cell of the store too few, 7 emit with cell 0 put to filler.
+   nd // 2 put to 16384, 3 emit with phase j + 128, 4 flush with phase 128, 5 flush into
+   4,095 cells, 6 emit with one cell of the store too few, not tried if M is 1, where none
+   is needed, 7 emit with cell 0 put to filler.
 2. The right send: a flush if t mod 3 is 2, else an emit.
-3. A wrong receive: 0 row M, 1 heard M, 2 phase 128, 3 a symbol of 4,095 cells, 4 one
-   cell of the store too few, 5 a buffer one cell short, not tried while warming, 6 the
-   lowest scattered cell put to 0, not tried if there is none, 7 the lowest data cell put
-   to 16384.
+3. A wrong receive: 0 phase j + 128, 1 heard M, 2 phase 128, 3 a symbol of 4,095 cells, 4
+   one cell of the store too few, not tried if M is 1, 5 a buffer one cell short, not tried
+   while warming, 6 the lowest scattered cell put to 0, not tried if there is none, 7 the
+   lowest data cell put to 16384.
 4. The right receive: warming for t below M - 1, else the data of input t - M + 1.
 
 Data cell c of input t is ((131 s + t) 4099 mod q + c) 48271 mod q mod 16384, with
@@ -55,9 +56,16 @@ def is_flush(t):
     return t % 3 == 2
 
 
+def is_send_tried(at, s, t):
+    """Is a wrong send tried?"""
+    return (s + t) % 8 != 6 or at.m > 1
+
+
 def is_tried(model, at, s, t):
     """Is a wrong receive tried?"""
     kind = (s + t) % 8
+    if kind == 4:
+        return at.m > 1
     if kind == 5:
         return t >= at.m - 1
     if kind == 6:
@@ -80,7 +88,7 @@ def counts_of(model, at, starts):
         for t in range(symbols_of(at.m)):
             counts['symbols'] += 1
             counts['flushes'] += is_flush(t)
-            counts['refused'] += 1 + is_tried(model, at, s, t)
+            counts['refused'] += is_send_tried(at, s, t) + is_tried(model, at, s, t)
             if t >= at.m - 1:
                 counts['cells'] += model.count(at, (s + t - at.m + 1) % 128)
     return counts
@@ -98,28 +106,28 @@ def line(plan):
 
 # --- the steps, with the model ---------------------------------------------
 
-def wrong_send(model, plan, at, kind, state, store, data):
+def wrong_send(model, plan, at, kind, phase, store, data):
     """The answer to a wrong send."""
-    phase, row = state
     nd = len(data)
     changed = {0: data[:-1], 1: data + [0], 2: [*data[:nd // 2], 16384, *data[nd // 2 + 1:]],
                4: None, 5: None, 7: [0x8001, *data[1:]]}
-    return model.step(plan, 128 if kind == 4 else phase, at.m if kind == 3 else row,
-                      store[:at.m * at.n - (kind == 6)], changed.get(kind, data),
+    return model.step(plan, {3: phase + 128, 4: 128}.get(kind, phase),
+                      store[:model.places(at).length - (kind == 6)], changed.get(kind, data),
                       [0] * (4096 - (kind == 5)))
 
 
 def wrong_receive(model, plan, at, kind, state, store, symbol):
     """The answer to a wrong receive."""
-    phase, row, heard = state
+    phase, heard = state
     marks = model.marks_at(at, phase)
     symbol = list(symbol)
     if kind > 5:
         mark, cell = ((0x8000, 0), (None, 16384))[kind - 6]
         symbol[marks.index(mark)] = cell
     count = model.count(at, model.input_phase(at, phase))
-    return model.receive(plan, 128 if kind == 2 else phase, at.m if kind == 0 else row,
-                         at.m if kind == 1 else heard, store[:at.m * at.n - (kind == 4)],
+    return model.receive(plan, {0: phase + 128, 2: 128}.get(kind, phase),
+                         at.m if kind == 1 else heard,
+                         store[:model.places(at, 'receiver').length - (kind == 4)],
                          symbol[:4096 - (kind == 3)], [0] * (count - (kind == 5)))
 
 
@@ -130,28 +138,30 @@ def follow(plan, starts):
     at = model.layout(plan)
     counts = Counter()
     for s in starts:
-        sending, listening = [0] * (at.m * at.n), [0] * (at.m * at.n)
-        _, *sender = model.fresh(plan, s, sending)
+        sending, listening = ([0] * model.places(at, end).length for end in ('emitter', 'receiver'))
+        _, sender = model.fresh(plan, s, sending)
         _, *state = model.listen(plan, s, listening)
         inputs = []
         for t in range(symbols_of(at.m)):
             kind = (s + t) % 8
-            data = data_of(s, t, model.count(at, sender[0]))
-            answer = wrong_send(model, plan, at, kind, sender, sending, data)
-            assert answer[:2] == ('refused', SEND_GROUNDS[kind])
+            data = data_of(s, t, model.count(at, sender))
+            send_tried = is_send_tried(at, s, t)
+            if send_tried:
+                answer = wrong_send(model, plan, at, kind, sender, sending, data)
+                assert answer[:2] == ('refused', SEND_GROUNDS[kind])
             inputs.append([0x8001] * len(data) if is_flush(t) else data)
             symbol, buffer = [0] * 4096, [43981] * 4096
-            _, *sender = model.step(plan, *sender, sending, None if is_flush(t) else data, symbol)
+            _, sender = model.step(plan, sender, sending, None if is_flush(t) else data, symbol)
             tried = is_tried(model, at, s, t)
             if tried:
                 answer = wrong_receive(model, plan, at, kind, state, listening, symbol)
                 assert answer[:2] == ('refused', RECEIVE_GROUNDS[kind])
             answer = model.receive(plan, *state, listening, symbol, buffer)
-            state = answer[-3:]
+            state = answer[-2:]
             want = inputs[t - at.m + 1] if t >= at.m - 1 else []
-            assert answer[:-3] == (('data', len(want)) if want else ('warming',))
+            assert answer[:-2] == (('data', len(want)) if want else ('warming',))
             assert buffer == want + [43981] * (4096 - len(want))
-            counts.update(symbols=1, cells=len(want), flushes=is_flush(t), refused=1 + tried)
+            counts.update(symbols=1, cells=len(want), flushes=is_flush(t), refused=send_tried + tried)
         counts['phases'] += 1
     return counts
 

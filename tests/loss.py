@@ -28,8 +28,9 @@ class Link:
 
     def __init__(self, model, plan, start):
         self.model, self.plan, self.at = model, plan, model.layout(plan)
-        self.sending, self.listening = ([0] * (self.at.m * self.at.n) for _ in range(2))
-        _, *self.sender = model.fresh(plan, start, self.sending)
+        self.sending, self.listening = ([0] * model.places(self.at, end).length
+                                        for end in ('emitter', 'receiver'))
+        _, self.sender = model.fresh(plan, start, self.sending)
         self.inputs = []
         self.listen(start)
 
@@ -39,19 +40,19 @@ class Link:
 
     def send(self, flush=False):
         """The next symbol and its phase."""
-        phase, t = self.sender[0], len(self.inputs)
+        phase, t = self.sender, len(self.inputs)
         count = self.model.count(self.at, phase)
         data = None if flush else [(4099 * t + 31 * i) % 16384 for i in range(count)]
         self.inputs.append(data)
         symbol = [0] * 4096
-        _, *self.sender = self.model.step(self.plan, *self.sender, self.sending, data, symbol)
+        _, self.sender = self.model.step(self.plan, phase, self.sending, data, symbol)
         return phase, symbol
 
     def hear(self, symbol):
         """The answer, and the data handed out."""
         data = [0] * 4096
         answer = self.model.receive(self.plan, *self.state, self.listening, symbol, data)
-        self.state = answer[-3:]
+        self.state = answer[-2:]
         return answer, data[:answer[1]] if answer[0] == 'data' else None
 
     def mend(self, symbol):
@@ -111,7 +112,7 @@ def check_unnoticed():
     plan = (ROOT / NO_SCATTERED).read_bytes()
     none = [j for j in range(128) if not model.scattered_of(model.judge(plan), j)]
     assert none == list(range(64, 76))
-    assert wrong_after(model, plan, 66) == (9, ('refused', 20, 800, 75, 1, 3), 76)
+    assert wrong_after(model, plan, 66) == (9, ('refused', 20, 800, 75, 3), 76)
     for lost in range(128):
         wrong, answer, phase = wrong_after(model, plan, lost)
         assert wrong == (75 - lost if 64 <= lost <= 75 else 0), (lost, wrong)
@@ -234,7 +235,8 @@ def expected(name):
     counts = [model.count(at, phase) for phase in range(128)]
     event, symbols = 2 * at.m, 4 * at.m + 4
     yield '%s: accepted, N_I %d, depth %d, N_D %d to %d' % (name, at.n, at.m, min(counts), max(counts))
-    yield '%d trunks started at phases 0, 8 up to 120, with stores of %d bytes' % (TRUNKS, 2 * at.m * at.n)
+    yield '%d trunks started at phases 0, 8 up to 120, with stores of %d and %d bytes' % (
+        TRUNKS, *(2 * model.places(at, end).length for end in ('emitter', 'receiver')))
     lowest = Link(model, plan, 0).lowest((8 * WRONG_ON + event) % 128)
     for k, role in lowest:
         yield ('trunk %d: symbol %d refused by 20 at %d: role %d, mended to 0x%04X'

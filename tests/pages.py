@@ -22,7 +22,7 @@ X = model.Limits()
 FIELDS = ('kind', 'zero', 'next index', 'first number', 'second number')
 WORDS = ('Subcarrier', 'Excluded', 'active', 'Exclusion band', 'Band', 'Width', 'span', 'Window', 'PLC',
          'Continuous pilot', 'Scattered pilot', 'Role', 'Phase', 'Cell', 'Mark', 'Symbol', 'Input symbol',
-         'N_I', 'N_D', 'Rank', 'Filler', 'flush', 'M, depth', 'Store', 'Row', 'Heard', 'Warming', 'Fresh',
+         'N_I', 'N_D', 'Rank', 'Filler', 'flush', 'M, depth', 'Store', 'Heard', 'Warming', 'Fresh',
          'Ground', 'Place')
 # The numbers of a ground that its entry has to name.
 NUMBERS = {
@@ -43,7 +43,7 @@ NUMBERS = {
     17: (X.last_subcarrier + 1, 2 * (X.last_subcarrier + 1)),
     19: (16383,),
     20: (16383,),
-    21: (20,),
+    21: (16,),
 }
 
 

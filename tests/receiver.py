@@ -1,5 +1,5 @@
 #!/usr/bin/env python3
-"""A second model of the receiver, written from the scope paper alone.
+"""A second model of the receiver, written from the scope paper and request 03 alone.
 
 It knows the fresh start and one receive step, with grounds 16, 17 and 20 after
 the plan's own.  The interleavers, the placeholders and N_D are those of the
@@ -17,7 +17,7 @@ import sys
 sys.dont_write_bytecode = True
 
 import plans
-from emitter import Emitter, Given
+from emitter import Emitter, Given, emitter_length
 
 
 class Receiver(Emitter):
@@ -49,22 +49,19 @@ class Receiver(Emitter):
     def is_warming(self, at, heard):
         return heard < at.m - 1
 
-    def rows_back(self, at, p):
-        """From how many rows back cell p is taken."""
+    def receiver_places(self, at, p):
+        """How many places cell p has in the store: so many symbols it waits for the others of
+        its input symbol."""
         return at.m - 1 - self.delay(at, p)
-
-    def taken_from(self, at, row, p):
-        """Where cell p is taken from."""
-        return self.place(at, (row - self.rows_back(at, p)) % at.m, p)
 
     def input_phase(self, at, phase):
         """The phase of the input symbol that is handed out."""
         return (phase - at.m + 1) % self.limits.phases
 
-    def handed(self, at, phase, row, store):
-        """The data cells (or filler) of the input symbol, in rising p."""
+    def handed(self, at, phase, cells):
+        """The data cells (or filler) among the cells of the input symbol, in rising p."""
         held = self.placeholders(at, self.input_phase(at, phase))
-        return [store[self.taken_from(at, row, p)] for p in range(at.n) if not held[p]]
+        return [cell for cell, placeholder in zip(cells, held) if not placeholder]
 
     def hand_out(self, buffer, data):
         """Writes the data buffer."""
@@ -100,88 +97,107 @@ class Receiver(Emitter):
     # --- the entries -------------------------------------------------------
 
     def listen(self, plan, phase, store):
-        """A fresh receiver, the store all filler: ('fresh', phase, row, heard); or
+        """A fresh receiver, the store all filler: ('fresh', phase, heard); or
         ('refused', number, place)."""
-        refused = self.refusal(plan, Given(phase, store=store))
+        refused = self.refusal(plan, Given(phase, store, end='receiver'))
         if refused:
             return refused
-        at = self.layout(plan)
-        for row in range(at.m):
-            self.write(at, row, store, [self.limits.filler_mark] * at.n)
-        return ('fresh', phase, 0, 0)
+        length = self.places(self.layout(plan), 'receiver').length
+        self.fill(store, [self.limits.filler_mark] * length)
+        return ('fresh', phase, 0)
 
-    def receive(self, plan, phase, row, heard, store, symbol, buffer):
-        """One step: ('warming', state) or ('data', count, state) with the next phase,
-        row and heard, store and buffer written; or ('refused', number, place, state) with
-        the state as given and nothing changed."""
-        refused = self.refusal(plan, Given(phase, row, store, heard=heard, arriving=symbol,
-                                           buffer=buffer))
+    def receive(self, plan, phase, heard, store, symbol, buffer):
+        """One step: ('warming', state) or ('data', count, state) with the next phase and
+        heard, store and buffer written; or ('refused', number, place, state) with the
+        state as given and nothing changed."""
+        refused = self.refusal(plan, Given(phase, store, heard=heard, arriving=symbol,
+                                           buffer=buffer, end='receiver'))
         if refused:
-            return (*refused, phase, row, heard)
+            return (*refused, phase, heard)
         at = self.layout(plan)
-        self.write(at, row, store, self.arriving_cells(at, symbol))
-        after = (self.next_phase(phase), self.next_row(at, phase, row),
-                 self.next_heard(at, heard))
+        cells = self.move(self.places(at, 'receiver'), store, self.arriving_cells(at, symbol))
+        after = (self.next_phase(phase), self.next_heard(at, heard))
         if self.is_warming(at, heard):
             return ('warming', *after)
-        data = self.handed(at, phase, row, store)
+        data = self.handed(at, phase, cells)
         self.hand_out(buffer, data)
         return ('data', len(data), *after)
 
 
 # --- what the paper says ---------------------------------------------------
 
+def receiver_length(n, m):
+    """The length of a receiver's store: both stores have M - 1 places for each cell."""
+    return n * (m - 1) - emitter_length(n, m)
+
+
+def check_lengths():
+    """The closed form, and the length that is enough for every plan."""
+    receiver = Receiver()
+    for plan in (plans.PLAN_A, plans.near_a(M=1), plans.near_a(M=3), plans.LARGEST):
+        at = receiver.layout(plan)
+        assert receiver.places(at, 'receiver').length == receiver_length(at.n, at.m)
+    assert receiver_length(425, 4) == 639
+    longest = max(receiver_length(n, m) for n in range(3746) for m in range(1, 33))
+    assert longest == receiver_length(3745, 32) == 58063
+
+
 def check_run(plan, start, steps):
-    """A receiver's run that follows an emitter's, with refused steps between."""
+    """A receiver's run that follows an emitter's, with refused steps between.  The places of cell p
+    hold what it was in the last symbols, oldest first, those before the start all filler."""
     emitter, receiver = Emitter(), Receiver()
     at = receiver.layout(plan)
-    sending, listening = [7] * (at.m * at.n + 2), [7] * (at.m * at.n + 2)
-    _, *sender = emitter.fresh(plan, start, sending)
-    assert receiver.listen(plan, start, listening) == ('fresh', start, 0, 0)
-    assert listening == [0x8001] * (at.m * at.n) + [7, 7]
-    state = (start, 0, 0)
-    inputs = []
+    sending = [7] * (emitter_length(at.n, at.m) + 2)
+    listening = [7] * (receiver_length(at.n, at.m) + 2)
+    _, sender = emitter.fresh(plan, start, sending)
+    assert receiver.listen(plan, start, listening) == ('fresh', start, 0)
+    assert listening == [0x8001] * (len(listening) - 2) + [7, 7]
+    state = (start, 0)
+    inputs, arrived = [], [[0x8001] * at.n] * (at.m - 1)
     for t in range(steps):
-        count = emitter.data_count(plan, sender[0])
+        count = emitter.data_count(plan, sender)
         data = None if t % 5 == 3 else [(1000 * t + i) % 16384 for i in range(count)]
         inputs.append([0x8001] * count if data is None else data)
         symbol, buffer = [7] * 4096, [7] * 4096
-        _, *sender = emitter.step(plan, *sender, sending, data, symbol)
+        _, sender = emitter.step(plan, sender, sending, data, symbol)
         if t % 3 == 1:
             bent = [*symbol[:972], symbol[972] ^ 1, *symbol[973:]]
             answer = receiver.receive(plan, *state, listening, bent, buffer)
             assert answer == ('refused', 20, 972, *state)
         answer = receiver.receive(plan, *state, listening, symbol, buffer)
-        state = answer[-3:]
-        assert state == ((start + t + 1) % 128, (t + 1) % at.m, min(t + 1, at.m - 1))
+        state = answer[-2:]
+        assert state == ((start + t + 1) % 128, min(t + 1, at.m - 1))
         if t < at.m - 1:
             assert answer[0] == 'warming' and buffer == [7] * 4096
         else:
             want = inputs[t - at.m + 1]
             assert answer[:2] == ('data', len(want))
             assert buffer == want + [7] * (4096 - len(want))
-    assert listening[at.m * at.n:] == [7, 7]
+        arrived.append([symbol[k] for k in at.carriers])
+        kept = [cells[p] for p in range(at.n)
+                for cells in arrived[len(arrived) - at.m + 1 + p % at.m:]]
+        assert listening == kept + [7, 7]
 
 
 def check_grounds():
     """Grounds 16, 17 and 20 in order, at their limits, and nothing changed."""
     emitter, receiver = Emitter(), Receiver()
     a = plans.PLAN_A
-    need = 4 * 425
+    need = 639
     good = [9] * 4096
     store = [9] * need
-    _, phase, row = emitter.fresh(a, 5, store)
-    emitter.step(a, phase, row, store, None, good)
+    emitter.fresh(a, 5, store)
+    emitter.step(a, 5, store, None, good)
     count = emitter.data_count(a, 2)    # the symbol handed out is three phases back
 
-    def step(want, phase=5, row=1, heard=3, size=need, symbol=good, buffer=4096, plan=a):
+    def step(want, phase=5, heard=3, size=need, symbol=good, buffer=4096, plan=a):
         lent, given, into = [9] * size, list(symbol), [9] * buffer
-        answer = receiver.receive(plan, phase, row, heard, lent, given, into)
+        answer = receiver.receive(plan, phase, heard, lent, given, into)
         assert given == symbol
         if want in ('warming', 'data'):
             assert answer[0] == want, answer
         else:
-            assert answer == ('refused', *want, phase, row, heard), answer
+            assert answer == ('refused', *want, phase, heard), answer
             assert lent == [9] * size
         assert want == 'data' or into == [9] * buffer
 
@@ -189,12 +205,12 @@ def check_grounds():
         return [*symbol[:k], cell, *symbol[k + 1:]]
 
     step('data')
-    step('data', row=3, size=need + 5, buffer=count)
+    step('data', size=need + 5, buffer=count)
     step('warming', heard=2, buffer=0)
     step('warming', heard=0)
     wrong = with_cell(0, 0)
     step((1, 0), plan=b'', phase=128, heard=4, size=0, symbol=[], buffer=0)
-    for out in ({'phase': 128}, {'row': 4}, {'heard': 4}):
+    for out in ({'phase': 128}, {'heard': 4}):
         step((16, 0), **out)
         step((16, 0), **out, symbol=wrong)
         step((16, 0), **out, size=0, symbol=wrong[1:], buffer=0)
@@ -212,11 +228,13 @@ def check_grounds():
     step((20, 853), symbol=with_cell(853, 16384, with_cell(925, 0)))
     assert receiver.listen(a, 128, []) == ('refused', 16, 0)
     assert receiver.listen(a, 127, [9] * (need - 1)) == ('refused', 17, 0)
-    assert receiver.listen(a, 127, [9] * need) == ('fresh', 127, 0, 0)
+    assert receiver.listen(a, 127, [9] * need) == ('fresh', 127, 0)
+    assert receiver.listen(plans.near_a(M=1), 127, []) == ('fresh', 127, 0)    # no cell waits
     assert receiver.listen(b'', 128, []) == ('refused', 1, 0)
 
 
 def check_facts():
+    check_lengths()
     check_run(plans.PLAN_A, 0, 9)
     check_run(plans.near_a(M=3), 125, 9)
     check_run(plans.near_a(M=1), 127, 3)

@@ -9,9 +9,10 @@
 
 A number here is four bytes, high byte first.  stdin holds, for each case: the
 plan's length (the upper two bytes zero), the starting phase, `need` and the number
-of acts; then the plan; then the acts, a byte each, of which an act 3 has 32 bytes
-more.  The end of the input ends the list.  `need` is M x N_I of an accepted plan, 0 of
-a refused one.  A case whose fresh start is refused has no acts.
+of acts; then the plan; then the acts, a byte each, of which an act 3 has 28 bytes
+more.  The end of the input ends the list.  `need` is how many cells a receiver's store
+has at least, the sum of M - 1 - (p mod M) over the cells p below N_I; 0 of a refused
+plan.  A case whose fresh start is refused has no acts.
 
 What the program does with a case:
 
@@ -20,11 +21,11 @@ What the program does with a case:
 - `sum` is the checksum, 0 at the start of a case:
   mix(sum, v) = (sum * 48271 + v) % 2147483647.
 - All cells are 43981 at the start of each case: the emitter's store and the
-  receiver's, 120,000 cells each; the line, 4,097 cells; the data buffer, 4,096 cells.
-- If `need` is not 0, two fresh receivers at the starting phase: the first with only
-  the first need - 1 cells of the receiver's store, after which the first 16 cells of
-  the store are mixed; the second with exactly the first `need` cells.  Their answers
-  are mixed: 1, then phase, row and heard of the state; or 2, number and place.
+  receiver's, 60,000 cells each; the line, 4,097 cells; the data buffer, 4,096 cells.
+- First two fresh receivers at the starting phase: the first with only the first
+  need - 1 cells of the receiver's store, none if `need` is 0, after which the first 16
+  cells of the store are mixed; the second with exactly the first `need` cells.  Their
+  answers are mixed: 1, then phase and heard of the state; or 2, number and place.
 - Then the fresh receiver of the case, at the starting phase, with the whole
   store; its answer is mixed in the same way.  If it was refused, the case ends here.
 - Then the fresh emitter at the starting phase, with its whole store.  Nothing of
@@ -35,10 +36,10 @@ What the program does with a case:
      1  flush into the first 4,096 cells of the line
      2  receive: the state as the run has it, the whole store, the first 4,096 cells
         of the line, the whole data buffer
-     3  receive with eight numbers, which follow in the input:
-          phase, row, heard   added to those of the state, modulo 2^32
+     3  receive with seven numbers, which follow in the input:
+          phase, heard        added to those of the state, modulo 2^32
           store               how many cells of the store are lent, from the first
-                              (at most 120,000)
+                              (at most 60,000)
           symbol              how many cells of the line are given, from the first
                               (at most 4,097)
           buffer              how many cells of the data buffer are lent, from the
@@ -48,11 +49,11 @@ What the program does with a case:
                               is none.  The line itself is as before after the act.
   An act with another number, 4 or more, counts as 2.
 - After each act 2 or 3 the answer is mixed: of warming 1, of data 3 and the
-  count, of a refusal 2, number and place; each time then phase, row and heard of
-  the state that is handed back; then all 4,096 cells of the data buffer.  The run goes
-  on with the state handed back by warming or data; after a refusal it goes on with
-  the state as it was before the act, without what was added.
-- At the end of the case, also if the fresh start was refused, mix all 120,000 cells of
+  count, of a refusal 2, number and place; each time then phase and heard of the state
+  that is handed back; then all 4,096 cells of the data buffer.  The run goes on with
+  the state handed back by warming or data; after a refusal it goes on with the state
+  as it was before the act, without what was added.
+- At the end of the case, also if the fresh start was refused, mix all 60,000 cells of
   the receiver's store.
 
 The case's line: `warmed handed refused sum`, decimal, single spaces: how many
@@ -72,8 +73,8 @@ import emits
 import receiver
 import stored
 from emits import STORE, SYMBOL, TOP, UNTOUCHED, Generator
-from emitter import Emitter, Given
-from receiver import Receiver
+from emitter import Emitter, Given, emitter_length
+from receiver import Receiver, receiver_length
 from stored import PRIME, mix, mix_cells
 
 EMIT, FLUSH, RECEIVE, RECEIVE_WITH = b'\0', b'\1', b'\2', b'\3'
@@ -84,12 +85,12 @@ CELLS = (0, 5, 16383, 16384, 32767, 0x8000, 0x8001, 0x8002, 0x8003, 0x8004, 0x80
 
 # --- the acts --------------------------------------------------------------
 
-def receive_with(phase=0, row=0, heard=0, store=STORE, symbol=SYMBOL, buffer=SYMBOL, changes=()):
+def receive_with(phase=0, heard=0, store=STORE, symbol=SYMBOL, buffer=SYMBOL, changes=()):
     """Act 3 with its numbers."""
     first, second = (*changes, NOWHERE, NOWHERE)[:2]
-    numbers = [n % (TOP + 1) for n in (phase, row, heard, store, symbol, buffer)]
+    numbers = [n % (TOP + 1) for n in (phase, heard, store, symbol, buffer)]
     numbers += [place * 65536 + cell for place, cell in (first, second)]
-    return RECEIVE_WITH + struct.pack('>8I', *numbers)
+    return RECEIVE_WITH + struct.pack('>7I', *numbers)
 
 
 class Acts:
@@ -99,11 +100,11 @@ class Acts:
 
     def __init__(self, seed, plan, start):
         self.at = self.sound.layout(plan)
-        self.need = self.at.m * self.at.n
+        self.need = receiver_length(self.at.n, self.at.m)
         self.x = seed
         self.acts = []
         self.on_line = {}       # by phase, the subcarriers of each mark
-        self.phase, self.row, self.heard = start, 0, 0
+        self.phase, self.heard = start, 0
         self.warmed = self.handed = self.refused = 0
 
     def draw(self, n):
@@ -154,23 +155,23 @@ class Acts:
     def out_of_range(self):
         """By 16; then several at once, 16 before 17 and 20."""
         m, bad = self.at.m, (self.a_wrong_cell(),)
-        beyond = [{'phase': n} for n in (128, 256, 65536, -128, TOP - self.phase)]
-        beyond += [{'row': n} for n in (m - self.row, 32, 256, 65536, TOP - self.row)]
+        beyond = [{'phase': n} for n in (128 - self.phase, 128, 256, 65536, -128, TOP - self.phase)]
         beyond += [{'heard': n} for n in (m - self.heard, 32, 256, 65536, TOP - self.heard)]
         return beyond + [
-            {'phase': 128, 'row': 32, 'heard': 32},
-            {'phase': 128, 'store': self.need - 1},
+            {'phase': 128, 'heard': 32},
+            {'phase': 128, 'store': 0},
+            {'phase': 128, 'symbol': 4095},
             {'phase': 128, 'changes': bad},
-            {'row': m - self.row, 'symbol': 4095},
-            {'row': 32, 'changes': bad},
+            {'heard': m - self.heard, 'store': 0},
             {'heard': m - self.heard, 'buffer': 0},
+            {'heard': 32, 'changes': bad},
             {'heard': 32, 'symbol': 4097, 'changes': bad}]
 
     def too_short(self):
-        """By 17; then 17 before 20."""
-        bad = (self.a_wrong_cell(),)
-        short = [{'store': self.need - 1}, {'store': self.need - self.at.n}, {'store': 0},
-                 {'symbol': 4095}, {'symbol': 4097}, {'symbol': 0}]
+        """By 17; then 17 before 20.  At depth 1 no store is too short."""
+        bad, m = (self.a_wrong_cell(),), self.at.m
+        short = [{'store': n} for n in (self.need - 1, emitter_length(self.at.n, m), 0) if 0 <= n < self.need]
+        short += [{'symbol': 4095}, {'symbol': 4097}, {'symbol': 0}]
         if not self.warming():
             short += [{'buffer': self.count() - 1}, {'buffer': 0}]
         return short + [{**given, 'changes': bad} for given in short]
@@ -210,14 +211,13 @@ class Acts:
         return ({'store': self.need}, {'buffer': buffer}, {'store': self.need, 'buffer': buffer})
 
     def strange(self):
-        """Other data or filler, another heard or row that is in range."""
+        """Other data or filler, another heard that is in range."""
         m, (k, other) = self.at.m, (self.some_carrier(None), self.some_carrier(None))
         buffer = 0 if self.warming() else self.count() - 1
         strange = [{'changes': ((k, cell),)} for cell in (0, 16383, 0x8001)]
         strange += [{'changes': ((k, 0x8001), (other, 7))},
-                    {'row': self.draw(m) - self.row},
                     {'heard': m - 1 - self.heard},
-                    {'heard': m - 1 - self.heard, 'row': m - 1 - self.row}]
+                    {'heard': m - 1 - self.heard, 'changes': ((k, 0x8001),)}]
         if m > 1:
             strange += [{'heard': max(m - 2 - self.draw(2), 0) - self.heard, 'buffer': buffer},
                         {'heard': m - 2 - self.heard, 'buffer': 0}]
@@ -230,15 +230,25 @@ class Acts:
         """None is a receive step without numbers."""
         plain = RECEIVE if self.draw(20) else bytes([self.one_of((4, 77, 128, 255))])
         self.acts.append(plain if given is None else receive_with(**given))
-        self.row += (given or {}).get('row', 0)
+        self.phase += (given or {}).get('phase', 0)
         self.heard += (given or {}).get('heard', 0)
         self.warmed += self.warming()
         self.handed += not self.warming()
         self.heard += self.warming()
-        self.phase, self.row = (self.phase + 1) % 128, (self.row + 1) % self.at.m
+        self.phase = (self.phase + 1) % 128
+
+    def skip(self):
+        """Symbols that do not come: the receiver is given the phase of the one after them, and so hands out
+        placeholders for a while."""
+        missed = 1 + self.draw(3)
+        for _ in range(missed + 1):
+            self.send()
+        self.accept({'phase': (self.phase + missed) % 128 - self.phase})
 
     def step(self, strange):
         """A symbol sent, given to the receiver until it is accepted."""
+        if strange and self.draw(8) == 0:
+            self.skip()
         self.send()
         while self.draw(3) == 0:
             self.refuse_some()
@@ -297,18 +307,18 @@ def all_cases():
 
 def need_of(plan):
     at = Acts.sound.layout(plan)
-    return 0 if isinstance(at, tuple) else at.m * at.n
+    return 0 if isinstance(at, tuple) else receiver_length(at.n, at.m)
 
 
 @lru_cache(maxsize=None)
 def sent_by(plan, start, sends):
     """The symbols that a sound emitter sends, of the acts that send."""
     emitter, cells, store, line = Emitter(), Generator(), [UNTOUCHED] * STORE, [0] * SYMBOL
-    _, *state = emitter.fresh(plan, start, store)
+    _, phase = emitter.fresh(plan, start, store)
     sent = []
     for act in sends:
-        data = None if act == FLUSH else cells.take(emitter.data_count(plan, state[0]))
-        _, *state = emitter.step(plan, *state, store, data, line)
+        data = None if act == FLUSH else cells.take(emitter.data_count(plan, phase))
+        _, phase = emitter.step(plan, phase, store, data, line)
         sent.append(array('H', line))
     return sent
 
@@ -318,7 +328,7 @@ def given_to(act, state):
     receive step is given."""
     if act[:1] != RECEIVE_WITH:
         return state, STORE, SYMBOL, SYMBOL, ()
-    *added, store, symbol, buffer, first, second = struct.unpack('>8I', act[1:])
+    *added, store, symbol, buffer, first, second = struct.unpack('>7I', act[1:])
     state = tuple((n + more) % (TOP + 1) for n, more in zip(state, added))
     return state, store, symbol, buffer, (divmod(first, 65536), divmod(second, 65536))
 
@@ -332,12 +342,13 @@ def mix_answer(total, answer):
 def start_of(model, plan, start, store):
     """The fresh starts of a case: the checksum, and what the last one answers."""
     need, total = need_of(plan), 0
-    for size in (need - 1, need) if need > 0 else ():
-        part = store[:size]
+    for spare in (1, 0):
+        part = store[:max(need - spare, 0)]
+        size = len(part)
         total = mix_answer(total, model.listen(plan, start, part))
         assert len(part) == size
         store[:size] = part
-        if size < need:
+        if spare:
             total = mix_cells(total, store[:16])
     answer = model.listen(plan, start, store)
     return mix_answer(total, answer), answer
@@ -345,15 +356,15 @@ def start_of(model, plan, start, store):
 
 def received(model, plan, state, act, store, line, buffer):
     """What a receive step answers."""
-    given, rows, width, size, changes = given_to(act, state)
-    lent, into = store if rows == STORE else store[:rows], buffer[:size]
+    given, room, width, size, changes = given_to(act, state)
+    lent, into = store if room == STORE else store[:room], buffer[:size]
     symbol = line[:width]
     for place, cell in changes:
         emits.put(symbol, place, cell)
     answer = model.receive(plan, *given, lent, symbol, into)
-    assert len(lent) == rows and len(into) == size
+    assert len(lent) == room and len(into) == size
     if lent is not store:
-        store[:rows] = lent
+        store[:room] = lent
     buffer[:size] = into
     return answer
 
@@ -374,7 +385,7 @@ def line_of(model, plan, start, acts):
         answer = received(model, plan, state, act, store, line, buffer)
         counts[answer[0]] += 1
         if answer[0] != 'refused':
-            state = answer[-3:]
+            state = answer[-2:]
         total = mix_cells(mix_answer(total, answer), buffer)
     return '%d %d %d %d' % (*counts.values(), mix_cells(total, store))
 
@@ -402,7 +413,6 @@ EQUIVALENT = {
     'phase of the input not taken modulo 128':
         'The grid repeats every 128 subcarriers, so it is the same at phase j and j + 128.',
     'heard after data is M - 1': 'No other heard is in range and answers data.',
-    'rows back not taken below M': 'M rows back is the row itself, around the ring.',
 }
 
 
@@ -412,9 +422,6 @@ class Total(emits.Total, Receiver):
 
     def arriving_cells(self, at, symbol):
         return Receiver.arriving_cells(self, at, symbol + [0] * (SYMBOL - len(symbol)))
-
-    def handed(self, at, phase, row, store):
-        return Receiver.handed(self, at, phase, row, store + [0] * (STORE - len(store)))
 
     def hand_out(self, buffer, data):
         buffer[:] = (data + buffer[len(data):])[:len(buffer)]
@@ -445,47 +452,50 @@ def fresh_mutants():
     def fill(store, first, end, cell):
         store[first:end] = [cell] * len(store[first:end])
 
-    yield 'fresh: heard 1', fresh(lambda self, at, store, j, row, heard: (j, row, 1))
-    yield 'fresh: heard M - 1', fresh(lambda self, at, store, j, row, heard: (j, row, at.m - 1))
-    yield 'fresh: row M - 1', fresh(lambda self, at, store, j, row, heard: (j, at.m - 1, heard))
+    def length(self, at):
+        return self.places(at, 'receiver').length
+
+    yield 'fresh: heard 1', fresh(lambda self, at, store, j, heard: (j, 1))
+    yield 'fresh: heard M - 1', fresh(lambda self, at, store, j, heard: (j, at.m - 1))
     yield 'fresh: the phase after', fresh(
-        lambda self, at, store, j, row, heard: ((j + 1) % 128, row, heard))
-    yield 'fresh: phase 0', fresh(lambda self, at, store, j, row, heard: (0, row, heard))
+        lambda self, at, store, j, heard: ((j + 1) % 128, heard))
+    yield 'fresh: phase 0', fresh(lambda self, at, store, j, heard: (0, heard))
     for cell in (0, 0x8000, UNTOUCHED):
         yield 'fresh: store all %d' % cell, stores(
-            lambda self, at, store, j, cell=cell: fill(store, 0, at.m * at.n, cell))
-    yield 'fresh: last row not written', stores(
-        lambda self, at, store, j: fill(store, (at.m - 1) * at.n, at.m * at.n, UNTOUCHED))
-    yield 'fresh: first row not written', stores(
-        lambda self, at, store, j: fill(store, 0, at.n, UNTOUCHED))
-    yield 'fresh: last cell not written', stores(
-        lambda self, at, store, j: emits.put(store, at.m * at.n - 1, UNTOUCHED))
+            lambda self, at, store, j, cell=cell: fill(store, 0, length(self, at), cell))
+    yield 'fresh: places of the last cell not written', stores(
+        lambda self, at, store, j: fill(store, self.places(at, 'receiver').first[-1],
+                                        length(self, at), UNTOUCHED))
+    yield 'fresh: first place not written', stores(
+        lambda self, at, store, j: emits.put(store, 0, UNTOUCHED))
+    yield 'fresh: last place not written', stores(
+        lambda self, at, store, j: emits.put(store, length(self, at) - 1, UNTOUCHED))
     yield 'fresh: the whole store written', stores(
         lambda self, at, store, j: fill(store, 0, STORE, 0x8001))
-    yield 'fresh: the cell past M x N_I written', stores(
-        lambda self, at, store, j: emits.put(store, at.m * at.n, 0x8001))
+    yield 'fresh: the cell past the places written', stores(
+        lambda self, at, store, j: emits.put(store, length(self, at), 0x8001))
+    yield 'fresh: the last three places not written', bent(
+        fill=lambda self, store, cells: fill(store, 0, len(cells) - 3, 0x8001))
     yield "fresh: the emitter's store", stores(
-        lambda self, at, store, j: [self.write(at, row, store, cells) for row, cells
-                                    in enumerate(self.fresh_rows(at, j))])
+        lambda self, at, store, j: self.fill(store, list(chain(*self.fresh_places(at, j)))))
 
 
 def delay_mutants():
-    back = {
-        'p mod M rows back': lambda at, p: p % at.m,
-        'M - p mod M rows back': lambda at, p: at.m - p % at.m,
-        'M - 2 - p mod M rows back': lambda at, p: at.m - 2 - p % at.m,
-        'no rows back': lambda at, p: 0,
-        'M - 1 rows back': lambda at, p: at.m - 1,
-        'rows forward': lambda at, p: p % at.m - at.m + 1,
-        'delay of 32 rows': lambda at, p: 31 - p % at.m,
-        'delay by column': lambda at, p: at.m - 1 - p // 128 % at.m,
-        'delay by rank': lambda at, p: at.m - 1 - at.ranks[p] % at.m,
-        'delay by subcarrier': lambda at, p: at.m - 1 - at.carriers[p] % at.m,
-        'delay counted in cells': lambda at, p: at.m - 1 - p // -(-at.n // at.m),
-        'rows back not taken below M': lambda at, p: 2 * at.m - 1 - p % at.m,
+    counts = {
+        'p mod M places': lambda at, p: p % at.m,
+        'M - p mod M places': lambda at, p: at.m - p % at.m,
+        'M - 2 - p mod M places': lambda at, p: max(at.m - 2 - p % at.m, 0),
+        'no places': lambda at, p: 0,
+        'M - 1 places': lambda at, p: at.m - 1,
+        'places as at depth 32': lambda at, p: 31 - p % at.m,
+        'places by column': lambda at, p: at.m - 1 - p // 128 % at.m,
+        'places by rank': lambda at, p: at.m - 1 - at.ranks[p] % at.m,
+        'places by subcarrier': lambda at, p: at.m - 1 - at.carriers[p] % at.m,
+        'places counted in cells': lambda at, p: at.m - 1 - p // -(-at.n // at.m),
+        'places by p mod 128 mod M': lambda at, p: at.m - 1 - p % 128 % at.m,
     }
-    for name, rows in back.items():
-        yield name, bent(rows_back=lambda self, at, p, rows=rows: rows(at, p))
+    for name, count in counts.items():
+        yield name, bent(receiver_places=lambda self, at, p, count=count: count(at, p))
     phases = {
         'the arriving one': lambda at, j: j,
         'M back': lambda at, j: (j - at.m) % 128,
@@ -505,9 +515,7 @@ def delay_mutants():
     yield 'placeholders without delay', bent(
         is_placeholder=lambda self, at, p, j: self.on_grid(at.map, at.carriers[p], j))
     yield 'placeholders by the mark in the store', bent(
-        handed=lambda self, at, phase, row, store: [
-            cell for cell in (store[self.taken_from(at, row, p)] for p in range(at.n))
-            if cell != 0x8000])
+        handed=lambda self, at, phase, cells: [cell for cell in cells if cell != 0x8000])
     yield 'no row reading order', bent(row_read=lambda self, i: i)
     yield 'rows read from right to left', bent(
         reading_order=lambda self, n: [
@@ -536,11 +544,10 @@ def data_mutants():
         lambda self, data, *_: [0x8001 if cell == 0x8000 else cell for cell in data])
     yield 'all data filler', handed(lambda self, data, *_: [0x8001] * len(data))
     yield 'placeholders handed out', bent(
-        handed=lambda self, at, phase, row, store: [
-            store[self.taken_from(at, row, p)] for p in range(at.n)])
+        handed=lambda self, at, phase, cells: list(cells))
     yield 'data by rank', bent(
-        handed=lambda self, at, phase, row, store: [
-            store[self.taken_from(at, row, p)] for p in self.reading_order(at.n)
+        handed=lambda self, at, phase, cells: [
+            cells[p] for p in self.reading_order(at.n)
             if not self.placeholders(at, self.input_phase(at, phase))[p]])
 
     def out(change):
@@ -564,7 +571,7 @@ def answering(change):
     """Other answers of accepted steps: `change` is given the answer, what receive
     is given and store and buffer as they were."""
     def receive(self, *given):
-        store, buffer = list(given[4]), list(given[6])
+        store, buffer = list(given[3]), list(given[5])
         answer = Total.receive(self, *given)
         if answer[0] == 'refused':
             return answer
@@ -600,23 +607,24 @@ def warming_mutants():
 
     def warm(change):
         """Other answers of warming steps."""
-        return answering(lambda self, answer, plan, phase, row, heard, store, symbol, buffer, *was:
-                         change(self, self.layout(plan), answer, phase, row, store, buffer, was)
+        return answering(lambda self, answer, plan, phase, heard, store, symbol, buffer, *was:
+                         change(self, self.layout(plan), answer, phase, store, symbol, buffer, was)
                          if answer[0] == 'warming' else answer)
 
-    def restored(self, at, answer, phase, row, store, buffer, was):
+    def restored(self, at, answer, phase, store, symbol, buffer, was):
         store[:] = was[0]
         return answer
 
-    def handing(self, at, answer, phase, row, store, buffer, was):
-        self.hand_out(buffer, self.handed(at, phase, row, store))
+    def handing(self, at, answer, phase, store, symbol, buffer, was):
+        cells = self.move(self.places(at, 'receiver'), was[0], self.arriving_cells(at, symbol))
+        self.hand_out(buffer, self.handed(at, phase, cells))
         return answer
 
-    def filling(self, at, answer, phase, row, store, buffer, was):
+    def filling(self, at, answer, phase, store, symbol, buffer, was):
         buffer[:] = [0x8001] * len(buffer)
         return answer
 
-    def one_cell(self, at, answer, phase, row, store, buffer, was):
+    def one_cell(self, at, answer, phase, store, symbol, buffer, was):
         emits.put(buffer, 0, 0x8001)
         return answer
     yield 'warming stores nothing', warm(restored)
@@ -624,48 +632,27 @@ def warming_mutants():
     yield 'warming fills the buffer', warm(filling)
     yield 'warming writes a cell', warm(one_cell)
     yield 'warming leaves the phase', warm(
-        lambda self, at, answer, phase, row, *_: ('warming', phase, *answer[2:]))
-    yield 'warming leaves the row', warm(
-        lambda self, at, answer, phase, row, *_: ('warming', answer[1], row, answer[3]))
-    yield 'warming by the row', bent(receive=by_row)
-
-
-def by_row(self, plan, phase, row, heard, store, symbol, buffer):
-    """The row stands for heard until it has gone round once."""
-    at = self.layout(plan)
-    fits = not isinstance(at, tuple) and heard < at.m - 1 and row < at.m
-    answer = Total.receive(self, plan, phase, row, row if fits else heard, store, symbol, buffer)
-    return (*answer[:-1], heard) if answer[0] == 'refused' else answer
+        lambda self, at, answer, phase, *_: ('warming', phase, answer[2]))
+    yield 'warming leaves heard', warm(
+        lambda self, at, answer, phase, *_: ('warming', answer[1], answer[2] - 1))
 
 
 def store_mutants():
+    yield from emits.move_mutants(Total, bent)
+
     def storing(change):
-        def changed(self, answer, plan, phase, row, heard, store, *_):
-            change(self, self.layout(plan), row, store)
+        def changed(self, answer, plan, phase, heard, store, *_):
+            change(self.places(self.layout(plan), 'receiver'), store)
             return answer
         return answering(changed)
 
-    yield 'steps write the cell past M x N_I', storing(
-        lambda self, at, row, store: emits.put(store, at.m * at.n, 0x8001))
+    yield 'steps write the cell past the places', storing(
+        lambda places, store: emits.put(store, places.length, 0x8001))
     yield 'steps write the last cell of the store', storing(
-        lambda self, at, row, store: emits.put(store, STORE - 1, 0x8001))
-    yield 'the row to come cleared', storing(
-        lambda self, at, row, store: self.write(at, (row + 1) % at.m, store, [0x8001] * at.n))
-    yield 'the row cleared that was handed out', storing(
-        lambda self, at, row, store: [
-            emits.put(store, self.taken_from(at, row, p), 0x8001) for p in range(at.n)])
-    yield 'every row written', bent(
-        write=lambda self, at, row, store, cells: [
-            Total.write(self, at, r, store, cells) for r in range(at.m)])
-    yield 'writes the row after', bent(
-        write=lambda self, at, row, store, cells: Total.write(
-            self, at, (row + 1) % at.m, store, cells))
-    yield 'the last cell not stored', bent(
-        write=lambda self, at, row, store, cells: Total.write(
-            self, at, row, store, cells[:-1]))
-    yield 'store by cells, then rows', bent(place=lambda self, at, row, p: p * at.m + row)
-    yield 'rows 3,745 cells apart', bent(place=lambda self, at, row, p: 3745 * row + p)
-    yield 'rows M-1 to 0', bent(place=lambda self, at, row, p: (at.m - 1 - row) * at.n + p)
+        lambda places, store: emits.put(store, STORE - 1, 0x8001))
+    yield 'steps write the first place', storing(lambda places, store: emits.put(store, 0, 0x8001))
+    yield 'steps write the last place', storing(
+        lambda places, store: emits.put(store, places.length - 1, 0x8001))
     arriving = {
         'by rank': lambda at, symbol: [symbol[k] for k in at.subcarriers],
         'from subcarrier 0 up': lambda at, symbol: symbol[:at.n],
@@ -680,12 +667,6 @@ def store_mutants():
             arriving_cells=lambda self, at, symbol, cells=cells: cells(
                 at, symbol + [0] * (SYMBOL - len(symbol))))
 
-    def before(self, answer, plan, phase, row, heard, store, symbol, buffer, was, _):
-        if answer[0] == 'data':
-            self.hand_out(buffer, self.handed(self.layout(plan), phase, row, was))
-        return answer
-    yield 'hands out before it stores', answering(before)
-
 
 def state_mutants():
     phases = {
@@ -697,19 +678,6 @@ def state_mutants():
     }
     for name, after in phases.items():
         yield 'phase %s' % name, bent(next_phase=lambda self, j, after=after: after(j))
-    rows = {
-        'stays': lambda at, j, row: row,
-        'falls': lambda at, j, row: (row - 1) % at.m,
-        'goes round at 32': lambda at, j, row: (row + 1) % 32,
-        'goes round at M+1': lambda at, j, row: (row + 1) % (at.m + 1),
-        'goes round at M-1': lambda at, j, row: (row + 1) % max(at.m - 1, 1),
-        'stops at M-1': lambda at, j, row: min(row + 1, at.m - 1),
-        'is phase mod M': lambda at, j, row: (j + 1) % 128 % at.m,
-    }
-    for name, after in rows.items():
-        yield 'row %s' % name, bent(
-            next_row=lambda self, at, phase, row, after=after: after(at, phase, row))
-
     def refused(change):
         """Other answers of refused steps."""
         def receive(self, *given):
@@ -718,31 +686,31 @@ def state_mutants():
             return answer if answer[0] != 'refused' else change(self, at, answer, *given)
         return bent(receive=receive)
 
-    def storing(self, at, answer, plan, phase, row, heard, store, symbol, buffer):
-        self.write(at, row, store, self.arriving_cells(at, symbol))
+    def storing(self, at, answer, plan, phase, heard, store, symbol, buffer):
+        self.move(self.places(at, 'receiver'), store, self.arriving_cells(at, symbol))
         return answer
 
-    def handing(self, at, answer, plan, phase, row, heard, store, symbol, buffer):
-        self.hand_out(buffer, self.handed(at, phase, row % at.m, store))
+    def handing(self, at, answer, plan, phase, heard, store, symbol, buffer):
+        cells = self.move(self.places(at, 'receiver'), list(store), self.arriving_cells(at, symbol))
+        self.hand_out(buffer, self.handed(at, phase, cells))
         return answer
 
-    def clearing(self, at, answer, plan, phase, row, heard, store, symbol, buffer):
+    def clearing(self, at, answer, plan, phase, heard, store, symbol, buffer):
         emits.put(buffer, 0, 0)
         return answer
     yield 'a refused step stores', refused(storing)
     yield 'a refused step hands out', refused(handing)
     yield 'a refused step writes a cell of the buffer', refused(clearing)
     yield 'a refused step hands back the next phase', refused(
-        lambda self, at, answer, *_: (*answer[:3], (answer[3] + 1) % 128, *answer[4:]))
-    yield 'a refused step hands back the next row', refused(
-        lambda self, at, answer, *_: (*answer[:4], (answer[4] + 1) % at.m, answer[5]))
+        lambda self, at, answer, *_: (*answer[:3], (answer[3] + 1) % 128, answer[4]))
     yield 'a refused step hands back the next heard', refused(
-        lambda self, at, answer, *_: (*answer[:5], answer[5] + 1))
+        lambda self, at, answer, *_: (*answer[:4], answer[4] + 1))
     yield 'a refused step hands back zeros', refused(
-        lambda self, at, answer, *_: (*answer[:3], 0, 0, 0))
+        lambda self, at, answer, *_: (*answer[:3], 0, 0))
     yield 'a refused step hands back a state in range', refused(
-        lambda self, at, answer, *_: (*answer[:3], answer[3] % 128, answer[4] % at.m,
-                                      answer[5] % at.m))
+        lambda self, at, answer, *_: (*answer[:3], answer[3] % 128, answer[4] % at.m))
+    yield 'a refused step hands back phase and heard exchanged', refused(
+        lambda self, at, answer, *_: (*answer[:3], answer[4], answer[3]))
 
 
 def holds(ground, test):
@@ -768,7 +736,7 @@ def order_mutants():
         """The grounds that speak of a part of what is given, tried after the others."""
         return bent(refusal=lambda self, plan, given: Total.refusal(
             self, plan, given._replace(**{part: None})) or Total.refusal(self, plan, given))
-    for part in ('row', 'store', 'buffer'):
+    for part in ('store', 'buffer'):
         yield part + ' tried last', late(part)
 
     def early(self, plan, given):
@@ -778,7 +746,7 @@ def order_mutants():
     yield 'ground 16 before the plan', bent(refusal=early)
     yield 'the fresh start tries 17 before 16', bent(
         listen=lambda self, plan, phase, store:
-        self.refusal(plan, Given(phase % 128, store=store))
+        self.refusal(plan, Given(phase % 128, store, end='receiver'))
         or Total.listen(self, plan, phase, store))
 
     yield from stored.refusal_mutants(Total, bent)
@@ -789,7 +757,7 @@ def range_mutants():
         limit = 128 if name == 'phase' else at.m
         return getattr(given, name) is not None and getattr(given, name) >= limit
 
-    names = ('phase', 'row', 'heard')
+    names = ('phase', 'heard')
     for name in names:
         others = [other for other in names if other != name]
         yield 'ground 16: %s not tried' % name, holds(
@@ -807,9 +775,6 @@ def range_mutants():
         'heard M good': lambda at, g: g.heard > at.m,
         'heard M - 1 bad': lambda at, g: g.heard >= max(at.m - 1, 1),
         'heard up to 31 good': lambda at, g: g.heard > 31,
-        'row M good': lambda at, g: g.row > at.m,
-        'row M - 1 bad': lambda at, g: g.row >= max(at.m - 1, 1),
-        'row up to 31 good': lambda at, g: g.row > 31,
         'phase 128 good': lambda at, g: g.phase > 128,
         'phase 127 bad': lambda at, g: g.phase > 126,
     }
@@ -817,7 +782,7 @@ def range_mutants():
         others = [other for other in names if other != name.split()[0]]
         yield 'ground 16: ' + name, holds(
             16, lambda self, at, g, test=test, others=others:
-            any(out(other, at, g) for other in others) or g.row is not None and test(at, g))
+            any(out(other, at, g) for other in others) or g.heard is not None and test(at, g))
 
 
 def length_mutants():
@@ -832,23 +797,34 @@ def length_mutants():
         return (given.buffer is not None and not self.is_warming(at, given.heard)
                 and len(given.buffer) < self.count(at, self.input_phase(at, given.phase)))
 
+    def needed(at):
+        return receiver_length(at.n, at.m)
+
+    def triangle(m):
+        return m * (m - 1) // 2
+
     stores = {
-        'store with <=': lambda at, g: short(g, at.m * at.n + 1),
-        'one cell too few is good': lambda at, g: short(g, at.m * at.n - 1),
-        'store of one row': lambda at, g: short(g, at.n),
-        'store of M - 1 rows': lambda at, g: short(g, (at.m - 1) * at.n),
-        'store of 32 rows': lambda at, g: short(g, 32 * at.n),
-        'store of M x J cells': lambda at, g: short(g, -(-at.n // at.m) * at.m * at.m),
-        'store not tried': lambda at, g: False,
-        'store not tried by the fresh start': lambda at, g: g.row is not None
-        and short(g, at.m * at.n),
-        'one cell too few is good for the fresh start': lambda at, g: short(
-            g, at.m * at.n - (g.row is None)),
-        'store not tried by a step': lambda at, g: g.row is None and short(g, at.m * at.n),
+        'with <=': lambda at, g: needed(at) + 1,
+        'one cell too few is good': lambda at, g: needed(at) - 1,
+        "the emitter's length": lambda at, g: emitter_length(at.n, at.m),
+        'M x N_I cells': lambda at, g: at.m * at.n,
+        '(M - 1) x N_I cells': lambda at, g: (at.m - 1) * at.n,
+        '(M - 1) x N_I / 2 cells': lambda at, g: (at.m - 1) * at.n // 2,
+        'the groups of M cells that are whole': lambda at, g: at.n // at.m * triangle(at.m),
+        'the last group of M cells as if whole': lambda at, g: -(-at.n // at.m) * triangle(at.m),
+        'as at depth 32': lambda at, g: receiver_length(at.n, 32),
+        'not tried': lambda at, g: 0,
+        'not tried by the fresh start': lambda at, g: 0 if g.heard is None else needed(at),
+        'one cell too few is good for the fresh start': lambda at, g: needed(at) - (g.heard is None),
+        'not tried by a step': lambda at, g: needed(at) if g.heard is None else 0,
+        'one cell too few is good for a step': lambda at, g: needed(at) - (g.heard is not None),
+        'not tried while warming': lambda at, g: needed(at) if g.heard is None or g.heard == at.m - 1
+        else 0,
     }
-    for name, test in stores.items():
-        yield 'ground 17: ' + name, holds(
-            17, lambda self, at, g, test=test: test(at, g) or odd(g) or full(self, at, g))
+    for name, length in stores.items():
+        yield 'ground 17: store: ' + name, holds(
+            17, lambda self, at, g, length=length: short(g, length(at, g)) or odd(g)
+            or full(self, at, g))
     symbols = {
         'symbol not tried': lambda g: False,
         'short symbol good': lambda g: odd(g) and len(g.arriving) > 4096,
@@ -856,7 +832,7 @@ def length_mutants():
     }
     for name, test in symbols.items():
         yield 'ground 17: ' + name, holds(
-            17, lambda self, at, g, test=test: short(g, at.m * at.n) or test(g)
+            17, lambda self, at, g, test=test: short(g, needed(at)) or test(g)
             or full(self, at, g))
     buffers = {
         'not tried': lambda self, at, g, size: False,
@@ -877,7 +853,7 @@ def length_mutants():
     }
     for name, test in buffers.items():
         yield 'ground 17: buffer ' + name, holds(
-            17, lambda self, at, g, test=test: short(g, at.m * at.n) or odd(g)
+            17, lambda self, at, g, test=test: short(g, needed(at)) or odd(g)
             or g.buffer is not None and test(self, at, g, len(g.buffer)))
 
 

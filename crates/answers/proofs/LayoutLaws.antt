@@ -19,10 +19,10 @@ put-bytes a at w x y z =
     rw (one, two, three) refl
 
 -- a buffer that is too short leaves what 21 leaves, a longer one what the entry does
-pub too-short {ℓ} : {A : Type ℓ} (a : List ℕ) (x y : A) → length a < 20 → x ≡ pick (short a) x y
+pub too-short {ℓ} : {A : Type ℓ} (a : List ℕ) (x y : A) → length a < 16 → x ≡ pick (short a) x y
 unfolding short
-too-short a x y h = sym (ap (λ (b : Bool). pick b x y) (lt-ltb (length a) 20 h))
+too-short a x y h = sym (ap (λ (b : Bool). pick b x y) (lt-ltb (length a) 16 h))
 
-pub long-enough {ℓ} : {A : Type ℓ} (a : List ℕ) (x y : A) → 20 ≤ length a → y ≡ pick (short a) x y
+pub long-enough {ℓ} : {A : Type ℓ} (a : List ℕ) (x y : A) → 16 ≤ length a → y ≡ pick (short a) x y
 unfolding short
-long-enough a x y h = sym (ap (λ (b : Bool). pick b x y) (le-ltb (length a) 20 h))
+long-enough a x y h = sym (ap (λ (b : Bool). pick b x y) (le-ltb (length a) 16 h))

@@ -30,13 +30,13 @@ use Rattle.answers.specs.declared.Told.{Told}
 unfoldable pub four : ℕ → List ℕ
 four x = (x / 16777216) ∷ (x / 65536 % 256) ∷ (x / 256 % 256) ∷ (x % 256) ∷ []
 
--- place, phase, row, heard and value, four bytes each
+-- place, phase, heard and value, four bytes each
 unfoldable pub layout : Told → List ℕ
-layout t = four (t .place) ++ four (t .phase) ++ four (t .row) ++ four (t .heard) ++ four (t .value)
+layout t = four (t .place) ++ four (t .phase) ++ four (t .heard) ++ four (t .value)
 
 -- 21: too short an answer buffer
 unfoldable pub short : List ℕ → Bool
-short a = ltb (length a) 20
+short a = ltb (length a) 16
 
 -- the answer at the start of the buffer; bytes past it are untouched
 unfoldable pub written : List ℕ → Told → List ℕ
@@ -53,11 +53,11 @@ roleNumber Data = 5
 
 -- a value, and no state
 abbrev pub valued : ℕ → Told
-valued x = record { number = 0; place = 0; phase = 0; row = 0; heard = 0; value = x }
+valued x = record { number = 0; place = 0; phase = 0; heard = 0; value = x }
 
 -- refused, and no state
 abbrev pub refusal : ℕ → ℕ → Told
-refusal n p = record { number = n; place = p; phase = 0; row = 0; heard = 0; value = 0 }
+refusal n p = record { number = n; place = p; phase = 0; heard = 0; value = 0 }
 
 abbrev pub toldVerdict : Verdict → Told
 toldVerdict (a-verdict.Accepted n) = valued n
@@ -72,20 +72,20 @@ toldCount (a-count.Count n) = valued n
 toldCount (a-count.Refused n p) = refusal n p
 
 abbrev pub toldStart : StartAnswer → Told
-toldStart (a-start.Started e) = record { number = 0; place = 0; phase = e .phase; row = e .row; heard = 0; value = 0 }
+toldStart (a-start.Started e) = record { number = 0; place = 0; phase = e .phase; heard = 0; value = 0 }
 toldStart (a-start.Refused n p) = refusal n p
 
 abbrev pub toldListen : ListenAnswer → Told
-toldListen (a-listen.Started v) = record { number = 0; place = 0; phase = v .phase; row = v .row; heard = v .heard; value = 0 }
+toldListen (a-listen.Started v) = record { number = 0; place = 0; phase = v .phase; heard = v .heard; value = 0 }
 toldListen (a-listen.Refused n p) = refusal n p
 
 -- the next state, or the state as it was given
 abbrev pub toldSend : SendAnswer → Told
-toldSend (a-send.Sent e) = record { number = 0; place = 0; phase = e .phase; row = e .row; heard = 0; value = 0 }
-toldSend (a-send.Refused n p e) = record { number = n; place = p; phase = e .phase; row = e .row; heard = 0; value = 0 }
+toldSend (a-send.Sent e) = record { number = 0; place = 0; phase = e .phase; heard = 0; value = 0 }
+toldSend (a-send.Refused n p e) = record { number = n; place = p; phase = e .phase; heard = 0; value = 0 }
 
 -- the same, and the count of data cells handed out: none while warming
 abbrev pub toldReceive : ReceiveAnswer → Told
-toldReceive (a-receive.Warming v) = record { number = 0; place = 0; phase = v .phase; row = v .row; heard = v .heard; value = 0 }
-toldReceive (a-receive.Data v n) = record { number = 0; place = 0; phase = v .phase; row = v .row; heard = v .heard; value = n }
-toldReceive (a-receive.Refused n p v) = record { number = n; place = p; phase = v .phase; row = v .row; heard = v .heard; value = 0 }
+toldReceive (a-receive.Warming v) = record { number = 0; place = 0; phase = v .phase; heard = v .heard; value = 0 }
+toldReceive (a-receive.Data v n) = record { number = 0; place = 0; phase = v .phase; heard = v .heard; value = n }
+toldReceive (a-receive.Refused n p v) = record { number = n; place = p; phase = v .phase; heard = v .heard; value = 0 }

@@ -1,5 +1,5 @@
 // The layout of an answer to a C host: the numbers of each answer of an entry (`told_verdict` and the others), and `tell`, which writes them
-// as 20 bytes. `tell` asks for a buffer of that length: its callers have tried it.
+// as 16 bytes. `tell` asks for a buffer of that length: its callers have tried it.
 ghost use mathlib.Core.Path.{_≡_};
 ghost use Prim.Native.Nat.{_+_, _≤_};
 ghost use lib.ListN.{length};
@@ -20,7 +20,6 @@ pub struct Told {
     pub number: u32,
     pub place: u32,
     pub phase: u32,
-    pub row: u32,
     pub heard: u32,
     pub value: u32,
 }
@@ -33,7 +32,6 @@ fn valued(value: u32) -> Told
         number: 0,
         place: 0,
         phase: 0,
-        row: 0,
         heard: 0,
         value,
     }
@@ -47,7 +45,6 @@ fn refusal(number: u32, place: u32) -> Told
         number,
         place,
         phase: 0,
-        row: 0,
         heard: 0,
         value: 0,
     }
@@ -100,7 +97,6 @@ pub fn told_start(a: StartAnswer) -> Told
             number: 0,
             place: 0,
             phase: e.phase,
-            row: e.row,
             heard: 0,
             value: 0,
         },
@@ -116,7 +112,6 @@ pub fn told_listen(a: ListenAnswer) -> Told
             number: 0,
             place: 0,
             phase: v.phase,
-            row: v.row,
             heard: v.heard,
             value: 0,
         },
@@ -132,7 +127,6 @@ pub fn told_send(a: SendAnswer) -> Told
             number: 0,
             place: 0,
             phase: next.phase,
-            row: next.row,
             heard: 0,
             value: 0,
         },
@@ -140,7 +134,6 @@ pub fn told_send(a: SendAnswer) -> Told
             number: g,
             place: at,
             phase: e.phase,
-            row: e.row,
             heard: 0,
             value: 0,
         },
@@ -149,13 +142,12 @@ pub fn told_send(a: SendAnswer) -> Told
 
 // A receiver's state after a step that no ground refused, and how many data cells it handed out.
 fn told_state(v: ReceiverState, count: u32) -> Told
-    ensures { λ r. ⌜ r ≡ record { number = 0; place = 0; phase = v .phase; row = v .row; heard = v .heard; value = count } ⌝ }
+    ensures { λ r. ⌜ r ≡ record { number = 0; place = 0; phase = v .phase; heard = v .heard; value = count } ⌝ }
 {
     Told {
         number: 0,
         place: 0,
         phase: v.phase,
-        row: v.row,
         heard: v.heard,
         value: count,
     }
@@ -171,7 +163,6 @@ pub fn told_receive(a: ReceiveAnswer) -> Told
             number: g,
             place: at,
             phase: v.phase,
-            row: v.row,
             heard: v.heard,
             value: 0,
         },
@@ -191,14 +182,13 @@ fn put_four(a: &mut [u8], at: usize, x: u32)
 
 // Lays the answer out at the start of the buffer, and returns its number.
 pub fn tell(a: &mut [u8], t: Told) -> u32
-    requires { ⌜ 20 ≤ length (now a) ⌝ }
+    requires { ⌜ 16 ≤ length (now a) ⌝ }
     ensures number { λ r. ⌜ r ≡ t .number ⌝ }
     ensures answer { λ r. ⌜ now (a .exit) ≡ written (now (a .entry)) t ⌝ }
 {
     put_four(a, 0, t.place);
     put_four(a, 4, t.phase);
-    put_four(a, 8, t.row);
-    put_four(a, 12, t.heard);
-    put_four(a, 16, t.value);
+    put_four(a, 8, t.heard);
+    put_four(a, 12, t.value);
     t.number
 }

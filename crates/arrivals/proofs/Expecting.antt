@@ -23,7 +23,7 @@ use Rattle.rules.specs.Frame.{Frame, frameOf}
 use Rattle.rules.specs.Receive.{wrongCell}
 use Rattle.roles.proofs.Fitting.{cellFits, fits-role}
 use Rattle.marks.specs.Marked.{Marked}
-use Rattle.delay.proofs.Stride.{Upto, Gap}
+use Rattle.counting.proofs.Stride.{Upto, Gap}
 use Rattle.spots.specs.Tied.{Tied, Turning}
 use Rattle.spots.proofs.Plans.{tied-of, turning-of}
 use Rattle.arrivals.specs.Expected.{allowed, allowedAt, scatteredMark, expected}

@@ -70,7 +70,7 @@ even-length b e = let k : length b % 2 ≡ 1 → ⊥ = eqb-false (length b % 2) 
 -- ---- cells stored as bytes
 
 -- one cell
-set-bytes : (c : List ℕ) (i x : ℕ) → set (set (bytesOf c) (2 * i) (x / 256)) (suc (2 * i)) (x % 256) ≡ bytesOf (set c i x)
+pub set-bytes : (c : List ℕ) (i x : ℕ) → set (set (bytesOf c) (2 * i) (x / 256)) (suc (2 * i)) (x % 256) ≡ bytesOf (set c i x)
 unfolding bytesOf
 set-bytes [] i x = refl
 set-bytes (y ∷ c) zero x = refl

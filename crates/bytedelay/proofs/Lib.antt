@@ -1,3 +1,2 @@
-pub mod ByteRing
-pub mod RowLaws
-pub mod LiftLaws
+pub mod ByteShifts
+pub mod ByteSteps

@@ -27,8 +27,8 @@ fn place(d: Device, plan: &[u8], marks: &[u16; 4096], car: &[u16], x: &[u16], sy
     bytewrite::write_cells(symbol, 0, &out);
 }
 
-// An emit or flush step of bytes of whole cells; a flush reads no input. Where no ground refuses it, the input symbol goes into its row of the
-// store, and the delayed cells go out on their subcarriers.
+// An emit or flush step of bytes of whole cells; a flush reads no input. Where no ground refuses it, the input symbol goes to the places of
+// its cells, and the delayed cells go out on their subcarriers.
 fn send(
     plan: &[u8],
     flushing: bool,
@@ -63,15 +63,14 @@ fn send(
         Verdict::Accepted(n) => {
             let ni = n as usize;
             let m = records::number_at(plan, 6);
-            let row = state.row as usize;
-            bytedelay::delay(m, row, store, &mut x[..ni]);
+            bytedelay::delay(m, store, &mut x[..ni]);
             place(d, plan, &marks, &car, &x[..ni], symbol);
-            SendAnswer::Sent(sending::next_state(m, state))
+            SendAnswer::Sent(sending::next_state(state))
         }
     }
 }
 
-// An emit step: the input goes into the current row as an input symbol, and one symbol on the line is sent.
+// An emit step: the input goes to the places of its cells as an input symbol, and one symbol on the line is sent.
 pub fn emit(
     plan: &[u8],
     state: EmitterState,

@@ -17,12 +17,10 @@ use Rattle.bytecells.specs.Octets.{cellsOf, bytesOf, odd, Whole}
 use Rattle.bytecells.specs.ByteSteps.{startedBytes, listenedBytes, startBytes, listenBytes}
 use Rattle.bytecells.proofs.OctetLaws.{whole-length}
 
--- ---- the bytes of m rows of n cells lie within a store that has their cells
+-- ---- the bytes of n places lie within a store that has their cells
 
-pub rows-bytes : (b : List ℕ) (m m′ n n′ : ℕ) → Whole b → m ≡ m′ → n ≡ n′ → m′ * n′ ≤ length (cellsOf b) → 2 * (m * n) ≤ length b
-rows-bytes b m m′ n n′ w em en h =
-    let same : m * n ≡ m′ * n′ = λ i. em i * en i in
-    omega (arith, same, h, whole-length b w)
+pub places-bytes : (b : List ℕ) (n : ℕ) → Whole b → n ≤ length (cellsOf b) → 2 * n ≤ length b
+places-bytes b n w h = omega (arith, h, whole-length b w)
 
 -- ---- the same answer, and a store that is the cells c as bytes
 

@@ -2,16 +2,15 @@
 use Prim.Native.Nat.{ℕ}
 use mathlib.Core.Path.{_≡_, refl, sym, ap, _∙_}
 use mathlib.Core.Bool.{true, false, _||_}
-use mathlib.Core.List.{List, _++_}
-use lib.ListN.{length, take, drop, replicate, length-replicate}
-use lib.Seq.{sets, length-front}
+use mathlib.Core.List.{List}
+use lib.ListN.{length}
+use lib.Seq.{sets}
 use Rattle.counting.specs.Search.{count, isZero}
 use Rattle.counting.proofs.Lists.{length-tabulate, sets-all}
 use Rattle.rules.specs.declared.Device.{Device}
 use Rattle.rules.specs.declared.ReceiverState.{ReceiverState}
 use Rattle.rules.specs.declared.ReceiveAnswer.{ReceiveAnswer}
 use Rattle.rules.specs.declared.ReceiveAnswer.the-variants.{Refused}
-use Rattle.rules.specs.Fits.{capacity}
 use Rattle.rules.specs.Receive.{Receiving, hears, receiveStep}
 use Rattle.fill.specs.Flags.{takenData}
 use Rattle.bytecells.specs.Octets.{cellsOf, bytesOf, odd}
@@ -25,10 +24,6 @@ as-bytes r s b s′ b′ out es eb e = (λ i. hears r (es i) (eb i)) ∙ ap hear
 pub taken-fills : (flag x g : List ℕ) → count (isZero flag) (length x) ≡ length g → sets g 0 (takenData flag x) ≡ takenData flag x
 unfolding takenData
 taken-fills flag x g e = sets-all g (takenData flag x) (sym e ∙ sym (length-tabulate _ (count (isZero flag) (length x))))
-
--- an array of zeros whose first n places were put to others has all its places
-pub all-again : (n : ℕ) (l : List ℕ) → length l ≡ length {A = ℕ} (take n (replicate capacity 0)) → length (l ++ drop n (replicate capacity 0)) ≡ capacity
-all-again n l e = length-front (replicate capacity 0) l n e ∙ length-replicate {A = ℕ} capacity 0
 
 -- ---- ground 21
 

@@ -3,7 +3,7 @@
 // leaves as it was.
 ghost use mathlib.Core.Path.{_≡_};
 ghost use mathlib.Core.Bool.{false, _||_};
-ghost use Prim.Native.Nat.{_-_, _*_, _%_, _≤_, _<_};
+ghost use Prim.Native.Nat.{_*_, _≤_, _<_};
 ghost use lib.ListN.{length};
 ghost use lib.Seq.{sets};
 ghost use Rattle.counting.specs.Search.{count, isZero};
@@ -11,7 +11,7 @@ ghost use Rattle.rules.specs.Device.{khz50};
 ghost use Rattle.rules.specs.Fits.{Fits};
 ghost use Rattle.rules.specs.Plan.{planOf};
 ghost use Rattle.rules.specs.Frame.{frameOf, cells, lineCells};
-ghost use Rattle.rules.specs.Store.{putRow, delayed};
+ghost use Rattle.rules.specs.Places.{receiverDelay, placesBefore, oldest, moved};
 ghost use Rattle.rules.specs.Receive.{hears, outPhase, received, receiveStep};
 ghost use Rattle.fill.specs.Flags.{takenData};
 ghost use Rattle.bytecells.specs.Octets.{cellsOf, bytesOf, odd, Whole};
@@ -35,40 +35,24 @@ fn some_halved(store: &[u8], symbol: &[u8], buffer: &[u8]) -> bool
     bytecells::halved(buffer)
 }
 
-// The arriving cells y go into the row in cell order, by way of x.
-fn take_in(
-    d: Device,
-    plan: &[u8],
-    m: usize,
-    row: usize,
-    kc: &[u16],
-    y: &[u16],
-    store: &mut [u8],
-    x: &mut [u16],
-)
-    requires { ⌜ Fits d × Whole (now store) × (row < m) × (m ≤ 4096) × (length (now y) ≡ d .subcarriers) × (length (now x) ≡ cells (frameOf d (planOf (now plan)))) × (length (now x) ≤ length (now kc)) × (2 * (m * length (now x)) ≤ length (now store)) × Spots (frameOf d (planOf (now plan))) (now kc) ⌝ }
-    ensures { λ _. ⌜ now (store .exit) ≡ bytesOf (putRow (cells (frameOf d (planOf (now (plan .entry))))) (cellsOf (now (store .entry))) row (lineCells (frameOf d (planOf (now (plan .entry)))) (now (y .entry)))) ⌝ }
+// The arriving cells y go into the store in cell order, and x takes the oldest of each cell.
+fn take_in(d: Device, plan: &[u8], m: usize, kc: &[u16], y: &[u16], store: &mut [u8], x: &mut [u16])
+    requires { ⌜ Fits d × Whole (now store) × (0 < m) × (m ≤ 4096) × (length (now y) ≡ d .subcarriers) × (length (now x) ≡ cells (frameOf d (planOf (now plan)))) × (length (now x) ≤ 4096) × (length (now x) ≤ length (now kc)) × (2 * placesBefore (receiverDelay m) (length (now x)) ≤ length (now store)) × Spots (frameOf d (planOf (now plan))) (now kc) ⌝ }
+    ensures stored { λ _. ⌜ now (store .exit) ≡ bytesOf (moved (receiverDelay m) (length (now (x .entry))) (cellsOf (now (store .entry))) (lineCells (frameOf d (planOf (now (plan .entry)))) (now (y .entry)))) ⌝ }
+    ensures taken { λ _. ⌜ now (x .exit) ≡ oldest (receiverDelay m) (length (now (x .entry))) (cellsOf (now (store .entry))) (lineCells (frameOf d (planOf (now (plan .entry)))) (now (y .entry))) ⌝ }
 {
     arrivals::line_cells(d, plan, kc, y, x);
-    bytewrite::write_cells(store, row * x.len(), x);
+    bytedelay::gather(m, store, x);
 }
 
-// The input symbol m - 1 steps back is gathered in x, and its data goes to the buffer, by way of the cells given.
-fn hand_out(
-    m: usize,
-    row: usize,
-    store: &[u8],
-    flag: &[u8],
-    x: &mut [u16],
-    given: &mut [u16],
-    buffer: &mut [u8],
-)
-    requires { ⌜ Whole (now buffer) × (row < m) × (m ≤ 4096) × (length (now x) ≤ 4096) × (length (now x) ≤ length (now flag)) × (2 * (m * length (now x)) ≤ length (now store)) × (count (isZero (now flag)) (length (now x)) ≡ length (now given)) × (2 * length (now given) ≤ length (now buffer)) ⌝ }
-    ensures { λ _. ⌜ now (buffer .exit) ≡ bytesOf (sets (cellsOf (now (buffer .entry))) 0 (takenData (now (flag .entry)) (delayed m (length (now (x .entry))) (λ p. m - 1 - p % m) (cellsOf (now (store .entry))) row))) ⌝ }
+// The data of an input symbol, nd of its cells, goes to the start of the buffer.
+fn hand_out(cells: &[u16], flag: &[u8], nd: usize, buffer: &mut [u8])
+    requires { ⌜ Whole (now buffer) × (length (now cells) ≤ 4096) × (length (now cells) ≤ length (now flag)) × (count (isZero (now flag)) (length (now cells)) ≡ nd) × (2 * nd ≤ length (now buffer)) ⌝ }
+    ensures { λ _. ⌜ now (buffer .exit) ≡ bytesOf (sets (cellsOf (now (buffer .entry))) 0 (takenData (now (flag .entry)) (now (cells .entry)))) ⌝ }
 {
-    bytedelay::gather(m, row, store, x);
-    taking::take_data(x, flag, given);
-    bytewrite::write_cells(buffer, 0, given);
+    let mut given = [0u16; 4096];
+    taking::take_data(cells, flag, &mut given[..nd]);
+    bytewrite::write_cells(buffer, 0, &given[..nd]);
 }
 
 // A step that no ground refuses, with nd data cells to hand out: kc are the subcarriers of the n cells, flag the flags of the placeholders
@@ -89,16 +73,13 @@ fn hear(
     requires { ⌜ Fits d × Whole (now store) × Whole (now buffer) × ReceiveInOrder (frameOf d (planOf (now plan))) (record { state = state; store = cellsOf (now store) }) (record { symbol = now y; buffer = cellsOf (now buffer) }) m n nd × Prepared (frameOf d (planOf (now plan))) (outPhase (frameOf d (planOf (now plan))) (state .phase)) (now kc) (now flag) ⌝ }
     ensures { λ r. ⌜ hears r (now (store .exit)) (now (buffer .exit)) ≡ heardBytes (received (frameOf d (planOf (now (plan .entry)))) (record { state = state; store = cellsOf (now (store .entry)) }) (record { symbol = now (y .entry); buffer = cellsOf (now (buffer .entry)) })) ⌝ }
 {
-    let row = state.row as usize;
-    let mut given = [0u16; 4096];
-    take_in(d, plan, m, row, kc, y, store, &mut given[..n]);
+    let mut x = [0u16; 4096];
+    take_in(d, plan, m, kc, y, store, &mut x[..n]);
     let next = receiving::next_state(m, state);
     if receiving::warms(state.heard, m) {
         return ReceiveAnswer::Warming(next);
     }
-    let k = nd as usize;
-    let mut x = [0u16; 4096];
-    hand_out(m, row, store, flag, &mut x[..n], &mut given[..k], buffer);
+    hand_out(&x[..n], flag, nd as usize, buffer);
     ReceiveAnswer::Data(next, nd)
 }
 
@@ -136,7 +117,7 @@ fn receive_whole(
     }
 }
 
-// A receive step: the arriving cells go into the current row, and the data of the input symbol M - 1 steps back is handed out.
+// A receive step: the store takes in the arriving cells, and the data of the input symbol M - 1 steps back is handed out.
 pub fn receive(
     plan: &[u8],
     state: ReceiverState,

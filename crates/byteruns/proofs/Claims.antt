@@ -25,7 +25,7 @@ use Rattle.byteruns.proofs.Hears as hears
 use Rattle.byteruns.proofs.Hears.{readReceiver, readArrival, cellArrivals, heard-same, outcome-same, listens-whole, hears-whole}
 
 module _ (d : Device) (s : List ℕ) (F : Frame) where
-  -- what the receiver tells
+  -- what the receiver hands back
   returned : (j : ℕ) (gs : List Given) (ys : List (List ℕ)) (v : Receiver) → FreshReceiver (byteEntries d s) j v → (arrivals : List Arrival)
       → Returned F (cellEntries d s) j gs ys (readReceiver v) (cellArrivals d s v arrivals) → Returned F (byteEntries d s) j gs ys v arrivals
   returned j gs ys v f arrivals r = record {

@@ -6,14 +6,14 @@ ghost use lib.Seq.{sets};
 ghost use Rattle.bytecells.specs.Octets.{bytesOf};
 
 // The high byte of a cell.
-fn high_byte(x: u16) -> u8
+pub fn high_byte(x: u16) -> u8
     ensures { λ r. ⌜ r ≡ x / 256 ⌝ }
 {
     (x / 256) as u8
 }
 
 // The low byte of a cell.
-fn low_byte(x: u16) -> u8
+pub fn low_byte(x: u16) -> u8
     ensures { λ r. ⌜ r ≡ x % 256 ⌝ }
 {
     (x % 256) as u8

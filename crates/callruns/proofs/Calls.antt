@@ -1,4 +1,4 @@
--- In any answer buffer of 20 bytes or more, a host's calls are the entries over bytes; so demand 3 and the other claims hold of runs of calls. Assumes nothing.
+-- In any answer buffer of 16 bytes or more, a host's calls are the entries over bytes; so demand 3 and the other claims hold of runs of calls. Assumes nothing.
 use Prim.Native.Nat.{ℕ}
 use mathlib.Core.Path.{_≡_, refl, sym, ap, _∙_, subst}
 use mathlib.Core.Bool.{Bool, true, false, not}
@@ -42,11 +42,11 @@ use Rattle.callruns.proofs.Warming.{long, told-back, Tells, bytes-tell}
 
 start-back : (r : StartAnswer) → eqb (toldStart r .number) 0 ≡ isStarted r → startOf (toldStart r) ≡ r
 start-back (a-start.Started e) h = refl
-start-back (a-start.Refused n place) h = ap (λ (b : Bool). pick b (a-start.Started (record { phase = 0; row = 0 })) (a-start.Refused n place)) h
+start-back (a-start.Refused n place) h = ap (λ (b : Bool). pick b (a-start.Started (record { phase = 0 })) (a-start.Refused n place)) h
 
 listen-back : (r : ListenAnswer) → eqb (toldListen r .number) 0 ≡ isListening r → listenOf (toldListen r) ≡ r
 listen-back (a-listen.Started v) h = refl
-listen-back (a-listen.Refused n place) h = ap (λ (b : Bool). pick b (a-listen.Started (record { phase = 0; row = 0; heard = 0 })) (a-listen.Refused n place)) h
+listen-back (a-listen.Refused n place) h = ap (λ (b : Bool). pick b (a-listen.Started (record { phase = 0; heard = 0 })) (a-listen.Refused n place)) h
 
 send-back : (r : SendAnswer) → eqb (toldSend r .number) 0 ≡ isSent r → sendOf (toldSend r) ≡ r
 send-back (a-send.Sent e) h = refl

@@ -24,8 +24,8 @@ use Rattle.rules.specs.Grounds.{_else_, ground?, badLength, badForm, badNext, p
 use Rattle.rules.specs.Roles.{rankedCount, role}
 use Rattle.rules.specs.Answers.{roleIn, roleAnswer}
 use Rattle.rules.specs.Frame.{Frame, frameOf, dataCount, Given, flush, symbol, topData}
-use Rattle.rules.specs.Store.{freshStore, fillerStore}
-use Rattle.rules.specs.Steps.{Emitter, Send, Sending, Starting, starts, refused, ground16, shortStore, stateGround16, ground17, givenGrounds, sendGrounds, accepted, frameStep, startGrounds, frameStart, frameCount, sendStep, startStep, dataCountAnswer}
+use Rattle.rules.specs.Store.{emitterPlaces, receiverPlaces, freshStore, fillerStore}
+use Rattle.rules.specs.Steps.{Emitter, Send, Sending, Starting, starts, refused, ground16, shortStore, ground17, givenGrounds, sendGrounds, accepted, frameStep, startGrounds, frameStart, frameCount, sendStep, startStep, dataCountAnswer}
 use Rattle.rules.specs.Receive as receive
 use Rattle.rules.specs.Receive.{Receiver, Arrival, Receiving, Listening, listens, turnedAway, shortBuffer, wrongCell, receiverGround16, receiverGround17, ground20, receiveGrounds, received, frameReceive, frameListen, hearStep, listenStep}
 use Rattle.answers.specs.Answer.{toldVerdict, toldRole, toldCount, toldStart, toldListen, toldSend, toldReceive}
@@ -93,9 +93,9 @@ module _ (F : Frame) where
   unfolding ground16
   phase-numbered j = last 16 (when (leb (F .phases) j) 0) refl
 
-  start-numbered : (j : ℕ) (st : List ℕ) → numbered (startGrounds F j st) ≡ true
+  start-numbered : (places j : ℕ) (st : List ℕ) → numbered (startGrounds F places j st) ≡ true
   unfolding startGrounds
-  start-numbered j st = both (ground16 F j) (ground? 17 (when (shortStore F st) 0)) (phase-numbered j) (last 17 (when (shortStore F st) 0) refl)
+  start-numbered places j st = both (ground16 F j) (ground? 17 (when (shortStore places st) 0)) (phase-numbered j) (last 17 (when (shortStore places st) 0) refl)
 
   given-numbered : (j : ℕ) (g : Given) → numbered (givenGrounds F j g) ≡ true
   unfolding givenGrounds
@@ -103,16 +103,16 @@ module _ (F : Frame) where
   given-numbered j (symbol ds) = more 18 (when (not (eqb (length ds) (dataCount F j))) 0) _ refl (last 19 (lowest (λ i. ltb topData (getD ds i 0)) (length ds)) refl)
 
   send-numbered : (e : Emitter) (a : Send) → numbered (sendGrounds F e a) ≡ true
-  unfolding sendGrounds stateGround16 ground17
+  unfolding sendGrounds ground16 ground17
   send-numbered e a =
-      more 16 (when (leb (F .phases) (e .state .phase) || leb (F .depth) (e .state .row)) 0) _ refl
-      (more 17 (when (shortStore F (e .store) || not (eqb (length (a .room)) (F .width))) 0) _ refl (given-numbered (e .state .phase) (a .given)))
+      more 16 (when (leb (F .phases) (e .state .phase)) 0) _ refl
+      (more 17 (when (shortStore (emitterPlaces F) (e .store) || not (eqb (length (a .room)) (F .width))) 0) _ refl (given-numbered (e .state .phase) (a .given)))
 
   receive-numbered : (v : Receiver) (a : Arrival) → numbered (receiveGrounds F v a) ≡ true
   unfolding receiveGrounds receiverGround16 receiverGround17 ground20
   receive-numbered v a =
-      more 16 (when (leb (F .phases) (v .state .phase) || leb (F .depth) (v .state .row) || leb (F .depth) (v .state .heard)) 0) _ refl
-      (more 17 (when (shortStore F (v .store) || not (eqb (length (a .symbol)) (F .width)) || shortBuffer F (v .state) (a .buffer)) 0) _ refl
+      more 16 (when (leb (F .phases) (v .state .phase) || leb (F .depth) (v .state .heard)) 0) _ refl
+      (more 17 (when (shortStore (receiverPlaces F) (v .store) || not (eqb (length (a .symbol)) (F .width)) || shortBuffer F (v .state) (a .buffer)) 0) _ refl
       (last 20 (lowest (wrongCell F (v .state .phase) (a .symbol)) (F .width)) refl))
 
 -- ---- the number of an answer
@@ -162,8 +162,8 @@ module _ (d : Device) (s : List ℕ) where
       let F : Frame = frameOf d (planOf s) in
       let away : ℕ → ℕ → Starting = λ n place. starts (a-start.Refused n place) st in
       by-ground (λ (r : Starting). toldStart (r .answer) .number) (λ r. isStarted (r .answer)) (grounds1to15 d s) (frameStart F j st) away (plan-numbered d s)
-      (by-ground (λ (r : Starting). toldStart (r .answer) .number) (λ r. isStarted (r .answer)) (startGrounds F j st)
-      (starts (a-start.Started (record { phase = j; row = 0 })) (freshStore F j st)) away (start-numbered F j st) refl (λ n place. (refl, refl)))
+      (by-ground (λ (r : Starting). toldStart (r .answer) .number) (λ r. isStarted (r .answer)) (startGrounds F (emitterPlaces F) j st)
+      (starts (a-start.Started (record { phase = j })) (freshStore F j st)) away (start-numbered F (emitterPlaces F) j st) refl (λ n place. (refl, refl)))
       (λ n place. (refl, refl))
 
   pub listen-zero : (j : ℕ) (st : List ℕ) → eqb (toldListen (listenStep d s j st .answer) .number) 0 ≡ isListening (listenStep d s j st .answer)
@@ -172,8 +172,8 @@ module _ (d : Device) (s : List ℕ) where
       let F : Frame = frameOf d (planOf s) in
       let away : ℕ → ℕ → Listening = λ n place. listens (a-listen.Refused n place) st in
       by-ground (λ (r : Listening). toldListen (r .answer) .number) (λ r. isListening (r .answer)) (grounds1to15 d s) (frameListen F j st) away (plan-numbered d s)
-      (by-ground (λ (r : Listening). toldListen (r .answer) .number) (λ r. isListening (r .answer)) (startGrounds F j st)
-      (listens (a-listen.Started (record { phase = j; row = 0; heard = 0 })) (fillerStore F st)) away (start-numbered F j st) refl (λ n place. (refl, refl)))
+      (by-ground (λ (r : Listening). toldListen (r .answer) .number) (λ r. isListening (r .answer)) (startGrounds F (receiverPlaces F) j st)
+      (listens (a-listen.Started (record { phase = j; heard = 0 })) (fillerStore F st)) away (start-numbered F (receiverPlaces F) j st) refl (λ n place. (refl, refl)))
       (λ n place. (refl, refl))
 
   pub send-zero : (e : Emitter) (a : Send) → eqb (toldSend (sendStep d s e a .answer) .number) 0 ≡ isSent (sendStep d s e a .answer)

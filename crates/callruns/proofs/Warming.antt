@@ -34,12 +34,12 @@ use Rattle.callruns.proofs.Zeros.{zero-is-accepted}
 
 -- ---- the value in the buffer
 
-byte-at : (a : List ℕ) (t : Told) (i : ℕ) → 20 ≤ length a → i < 20 → getD (written a t) i 0 ≡ getD (layout t) i 0
+byte-at : (a : List ℕ) (t : Told) (i : ℕ) → 16 ≤ length a → i < 16 → getD (written a t) i 0 ≡ getD (layout t) i 0
 unfolding written layout four
 byte-at a t i h l = getD-sets-0 a (layout t) 0 i l h
 
 -- the number whose four bytes stand from byte i on
-word-at : (a : List ℕ) (t : Told) (i x : ℕ) → 20 ≤ length a → i + 3 < 20
+word-at : (a : List ℕ) (t : Told) (i x : ℕ) → 16 ≤ length a → i + 3 < 16
     → getD (layout t) i 0 ≡ x / 16777216 → getD (layout t) (i + 1) 0 ≡ x / 65536 % 256 → getD (layout t) (i + 2) 0 ≡ x / 256 % 256 → getD (layout t) (i + 3) 0 ≡ x % 256
     → numberIn (written a t) i ≡ x
 unfolding numberIn
@@ -50,25 +50,24 @@ word-at a t i x h l e0 e1 e2 e3 =
     let b3 : getD (written a t) (i + 3) 0 ≡ x % 256 = byte-at a t (i + 3) h (omega arith) ∙ e3 in
     rw (b0, b1, b2, b3) (omega arith)
 
-value-is : (a : List ℕ) (t : Told) → 20 ≤ length a → valueIn (written a t) ≡ t .value
+value-is : (a : List ℕ) (t : Told) → 16 ≤ length a → valueIn (written a t) ≡ t .value
 unfolding layout four
-value-is a t h = word-at a t 16 (t .value) h (omega arith) refl refl refl refl
+value-is a t h = word-at a t 12 (t .value) h (omega arith) refl refl refl refl
 
 -- what was written is what is told
-pub told-back : (a : List ℕ) (t : Told) → 20 ≤ length a → toldIn (says (t .number) (written a t)) ≡ t
+pub told-back : (a : List ℕ) (t : Told) → 16 ≤ length a → toldIn (says (t .number) (written a t)) ≡ t
 unfolding layout four
 told-back a t h = λ i. record {
   number = t .number;
   place = word-at a t 0 (t .place) h (omega arith) refl refl refl refl i;
   phase = word-at a t 4 (t .phase) h (omega arith) refl refl refl refl i;
-  row = word-at a t 8 (t .row) h (omega arith) refl refl refl refl i;
-  heard = word-at a t 12 (t .heard) h (omega arith) refl refl refl refl i;
-  value = word-at a t 16 (t .value) h (omega arith) refl refl refl refl i;
+  heard = word-at a t 8 (t .heard) h (omega arith) refl refl refl refl i;
+  value = word-at a t 12 (t .value) h (omega arith) refl refl refl refl i;
 }
 
-pub long : (a : List ℕ) → short a ≡ false → 20 ≤ length a
+pub long : (a : List ℕ) → short a ≡ false → 16 ≤ length a
 unfolding short
-long a e = ltb-false (length a) 20 e
+long a e = ltb-false (length a) 16 e
 
 -- ---- the value of an answer
 

@@ -1,4 +1,4 @@
--- The calls, as a C host steps through them (request 01): it lends an answer buffer, and takes the number that a call returns and the five numbers that the
+-- The calls, as a C host steps through them (request 01): it lends an answer buffer, and takes the number that a call returns and the four numbers that the
 -- call left in the buffer. Assumes nothing.
 use Prim.Native.Nat.{ℕ}
 use mathlib.Core.Path.{_≡_}
@@ -25,35 +25,34 @@ use Rattle.headend.specs.Calls.{Said, StoreSaid, StepSaid, startCall, listenCal
 use Rattle.runs.specs.Run.{Entries}
 use Rattle.callruns.specs.Host.{numberIn}
 
--- what a call said: the number, and place, phase, row, heard and value from the buffer
+-- what a call said: the number, and place, phase, heard and value from the buffer
 abbrev pub toldIn : Said → Told
 toldIn c = record {
   number = c .number;
   place = numberIn (c .answer) 0;
   phase = numberIn (c .answer) 4;
-  row = numberIn (c .answer) 8;
-  heard = numberIn (c .answer) 12;
-  value = numberIn (c .answer) 16;
+  heard = numberIn (c .answer) 8;
+  value = numberIn (c .answer) 12;
 }
 
 -- how a host takes it: the number 0 is not refused, and of a receive call the value 0 is warming
 abbrev pub startOf : Told → StartAnswer
-startOf t = pick (eqb (t .number) 0) (a-start.Started (record { phase = t .phase; row = t .row })) (a-start.Refused (t .number) (t .place))
+startOf t = pick (eqb (t .number) 0) (a-start.Started (record { phase = t .phase })) (a-start.Refused (t .number) (t .place))
 
 abbrev pub listenOf : Told → ListenAnswer
-listenOf t = pick (eqb (t .number) 0) (a-listen.Started (record { phase = t .phase; row = t .row; heard = t .heard })) (a-listen.Refused (t .number) (t .place))
+listenOf t = pick (eqb (t .number) 0) (a-listen.Started (record { phase = t .phase; heard = t .heard })) (a-listen.Refused (t .number) (t .place))
 
 abbrev pub sendOf : Told → SendAnswer
 sendOf t =
-    pick (eqb (t .number) 0) (a-send.Sent (record { phase = t .phase; row = t .row }))
-    (a-send.Refused (t .number) (t .place) (record { phase = t .phase; row = t .row }))
+    pick (eqb (t .number) 0) (a-send.Sent (record { phase = t .phase }))
+    (a-send.Refused (t .number) (t .place) (record { phase = t .phase }))
 
 abbrev pub receiveOf : Told → ReceiveAnswer
 receiveOf t =
     pick (eqb (t .number) 0)
-    (pick (eqb (t .value) 0) (a-receive.Warming (record { phase = t .phase; row = t .row; heard = t .heard }))
-    (a-receive.Data (record { phase = t .phase; row = t .row; heard = t .heard }) (t .value)))
-    (a-receive.Refused (t .number) (t .place) (record { phase = t .phase; row = t .row; heard = t .heard }))
+    (pick (eqb (t .value) 0) (a-receive.Warming (record { phase = t .phase; heard = t .heard }))
+    (a-receive.Data (record { phase = t .phase; heard = t .heard }) (t .value)))
+    (a-receive.Refused (t .number) (t .place) (record { phase = t .phase; heard = t .heard }))
 
 -- with what the call left
 abbrev pub startSaid : StoreSaid → Starting
@@ -71,11 +70,11 @@ receiveSaid c = hears (receiveOf (toldIn (c .said))) (c .store) (c .cells)
 -- the device, a plan's bytes and the answer buffer
 module _ (d : Device) (s : List ℕ) (a : List ℕ) where
   abbrev pub giveCall : Emitter → List ℕ → Given → StepSaid
-  giveCall e room flush = flushCall d s (e .state .phase) (e .state .row) (e .store) room a
-  giveCall e room (symbol ds) = emitCall d s (e .state .phase) (e .state .row) (e .store) ds room a
+  giveCall e room flush = flushCall d s (e .state .phase) (e .store) room a
+  giveCall e room (symbol ds) = emitCall d s (e .state .phase) (e .store) ds room a
 
   abbrev pub hearCall : Receiver → Arrival → StepSaid
-  hearCall v x = receiveCall d s (v .state .phase) (v .state .row) (v .state .heard) (v .store) (x .symbol) (x .buffer) a
+  hearCall v x = receiveCall d s (v .state .phase) (v .state .heard) (v .store) (x .symbol) (x .buffer) a
 
   abbrev pub callEntries : Entries
   callEntries = record {

@@ -46,9 +46,9 @@ isWarming (a-receive.Refused n place v) = false
 unfoldable pub numberIn : List ℕ → ℕ → ℕ
 numberIn a i = getD a i 0 * 16777216 + getD a (i + 1) 0 * 65536 + getD a (i + 2) 0 * 256 + getD a (i + 3) 0
 
--- the value: the last of five such numbers
+-- the value: the last of four such numbers
 abbrev pub valueIn : List ℕ → ℕ
-valueIn a = numberIn a 16
+valueIn a = numberIn a 12
 
 -- A call returns 0 exactly if nothing refuses: the answer buffer a is long enough, and the entry beneath the call does not refuse.
 pub record ZeroIsAccepted (d : Device) (s : List ℕ) : Type 0 where
@@ -58,14 +58,14 @@ pub record ZeroIsAccepted (d : Device) (s : List ℕ) : Type 0 where
   pub started : (j : ℕ) (store a : List ℕ) → (startCall d s j store a .said .number ≡ 0) ↔ ((short a ≡ false) × (isStarted (startBytes d s j store .answer) ≡ true))
   pub listens : (j : ℕ) (store a : List ℕ) → (listenCall d s j store a .said .number ≡ 0) ↔ ((short a ≡ false) × (isListening (listenBytes d s j store .answer) ≡ true))
   pub emitted : (e : EmitterState) (store ds room a : List ℕ)
-      → (emitCall d s (e .phase) (e .row) store ds room a .said .number ≡ 0) ↔ ((short a ≡ false) × (isSent (emitBytes d s e store ds room .answer) ≡ true))
+      → (emitCall d s (e .phase) store ds room a .said .number ≡ 0) ↔ ((short a ≡ false) × (isSent (emitBytes d s e store ds room .answer) ≡ true))
   pub flushed : (e : EmitterState) (store room a : List ℕ)
-      → (flushCall d s (e .phase) (e .row) store room a .said .number ≡ 0) ↔ ((short a ≡ false) × (isSent (flushBytes d s e store room .answer) ≡ true))
+      → (flushCall d s (e .phase) store room a .said .number ≡ 0) ↔ ((short a ≡ false) × (isSent (flushBytes d s e store room .answer) ≡ true))
   pub received : (v : ReceiverState) (store y b a : List ℕ)
-      → (receiveCall d s (v .phase) (v .row) (v .heard) store y b a .said .number ≡ 0) ↔ ((short a ≡ false) × (isReceived (receiveBytes d s v store y b .answer) ≡ true))
+      → (receiveCall d s (v .phase) (v .heard) store y b a .said .number ≡ 0) ↔ ((short a ≡ false) × (isReceived (receiveBytes d s v store y b .answer) ≡ true))
 
 -- A receive call that returns 0 leaves the value 0 exactly if it answers warming.
 abbrev pub ZeroIsWarming : Device → List ℕ → Type 0
 ZeroIsWarming d s =
-    (v : ReceiverState) (store y b a : List ℕ) → receiveCall d s (v .phase) (v .row) (v .heard) store y b a .said .number ≡ 0
-    → (valueIn (receiveCall d s (v .phase) (v .row) (v .heard) store y b a .said .answer) ≡ 0) ↔ (isWarming (receiveBytes d s v store y b .answer) ≡ true)
+    (v : ReceiverState) (store y b a : List ℕ) → receiveCall d s (v .phase) (v .heard) store y b a .said .number ≡ 0
+    → (valueIn (receiveCall d s (v .phase) (v .heard) store y b a .said .answer) ≡ 0) ↔ (isWarming (receiveBytes d s v store y b .answer) ≡ true)

@@ -7,3 +7,4 @@ pub mod Sums
 pub mod Select
 pub mod Ranks
 pub mod Orders
+pub mod Stride

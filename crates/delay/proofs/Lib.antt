@@ -1,2 +1,3 @@
-pub mod Ring
-pub mod Stride
+pub mod Shifts
+pub mod Steps
+pub mod Passing

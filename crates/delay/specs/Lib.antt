@@ -1,1 +1,1 @@
-pub mod Ring
+pub mod Shift

@@ -1,96 +1,99 @@
-// The delay, a ring of rows in a flat store: a symbol's cells go into the current row, and come out one residue of the depth after
-// the other, each from the row that lies so many steps back: p mod m for the emitter's cell p, m - 1 - p mod m for the receiver's.
+// The delay store (document 02, request 03): for each cell one place for each symbol of its delay, in rising p, the oldest first. A step is one pass
+// and one move of memory: the oldest of each cell goes out, and the cell that came in before takes its place; then the whole store goes one place
+// down, and the cell that came in last takes the last place. A cell without a place goes out as it came in.
 ghost use mathlib.Core.Path.{_≡_};
-ghost use Prim.Native.Nat.{_+_, _-_, _*_, _%_, _≤_, _<_};
-ghost use lib.ListN.{length, getD};
-ghost use lib.Dec.{eqb};
-ghost use lib.Seq.{sets};
-ghost use Rattle.counting.specs.Search.{pick, tabulate};
-ghost use Rattle.rules.specs.Store.{cellAt, putRow, nextRow, delayed};
+ghost use Prim.Native.Nat.{_+_, _≤_, _<_};
+ghost use lib.ListN.{length};
+ghost use Rattle.rules.specs.Fits.{capacity};
+ghost use Rattle.rules.specs.Places.{emitterDelay, receiverDelay, placesBefore, oldest, moved};
+ghost use Rattle.exchange.specs.Exchange.{endDelay, firstCell, Exchanged};
+ghost use Rattle.delay.specs.Shift.{Least, shifted};
 
-// Writes x into the store from place at on.
-pub fn put_at(store: &mut [u16], x: &[u16], at: usize)
-    requires { ⌜ at + length (now x) ≤ length (now store) ⌝ }
-    ensures { λ _. ⌜ now (store .exit) ≡ sets (now (store .entry)) at (now (x .entry)) ⌝ }
+// The lesser of two numbers.
+pub fn least(a: usize, b: usize) -> usize
+    ensures { λ r. ⌜ Least a b r ⌝ }
 {
-    let mut i = 0;
-    while i < x.len() {
-        store[at + i] = x[i];
-        i += 1;
-    }
+    if a < b { a } else { b }
 }
 
-// The row after r, of m rows in a ring.
-pub fn next_row(r: usize, m: usize) -> usize
-    requires { ⌜ (r < m) × (m ≤ 4096) ⌝ }
-    ensures { λ x. ⌜ x ≡ nextRow m r ⌝ }
+// The first cell of a group that has a place: the second of an emitter's, the first of a receiver's.
+pub fn first_cell(emitter: bool) -> usize
+    ensures { λ r. ⌜ r ≡ firstCell emitter ⌝ }
 {
-    if r + 1 == m { 0 } else { r + 1 }
+    if emitter { 1 } else { 0 }
 }
 
-// The row before r, of m rows in a ring.
-pub fn row_before(r: usize, m: usize) -> usize
-    requires { ⌜ (r < m) × (m ≤ 4096) ⌝ }
-    ensures { λ x. ⌜ x ≡ (r + (m - 1)) % m ⌝ }
-{
-    if r == 0 { m - 1 } else { r - 1 }
-}
-
-// Copies the row's cells d, d + m, .. and no others.
-fn line(m: usize, d: usize, row: &[u16], cells: &mut [u16])
-    requires { ⌜ (d < m) × (m ≤ 4096) × (length (now cells) ≤ 4096) × (length (now row) ≡ length (now cells)) ⌝ }
-    ensures { λ _. ⌜ now (cells .exit) ≡ tabulate (λ q. pick (eqb (q % m) d) (getD (now (row .entry)) q 0) (getD (now (cells .entry)) q 0)) (length (now (cells .entry))) ⌝ }
+// The pass over all cells, group by group. The answer is the cell that came in last.
+fn pass(emitter: bool, m: usize, store: &mut [u16], cells: &mut [u16]) -> u16
+    requires { ⌜ (1 < m) × (m ≤ capacity) × (length (now cells) ≤ capacity) × (placesBefore (endDelay emitter m) (length (now cells)) ≤ length (now store)) ⌝ }
+    ensures { λ r. ⌜ Exchanged (endDelay emitter m) (now (store .entry)) (now (cells .entry)) (length (now (cells .entry))) (now (store .exit)) (now (cells .exit)) (placesBefore (endDelay emitter m) (length (now (cells .entry)))) r ⌝ }
 {
     let n = cells.len();
-    let mut p = d;
+    let mut p = least(first_cell(emitter), n);
+    let mut at = 0;
+    let mut last = 0;
     while p < n {
-        cells[p] = row[p];
-        p = p + m;
+        let e = least(p + (m - 1), n);
+        let passed = exchange::pass_group(emitter, m, p, e, at, last, store, cells);
+        at = passed.at;
+        last = passed.last;
+        p = least(e + 1, n);
+    }
+    last
+}
+
+// The first n places go one place down.
+fn shift(store: &mut [u16], n: usize)
+    requires { ⌜ n ≤ length (now store) ⌝ }
+    ensures { λ _. ⌜ now (store .exit) ≡ shifted n (now (store .entry)) ⌝ }
+{
+    let mut k = 0;
+    while k + 1 < n {
+        store[k] = store[k + 1];
+        k += 1;
     }
 }
 
-// Takes cell p from the row p mod m back; the cells whose p mod m is 0 are in place already.
-fn lift(m: usize, row: usize, store: &[u16], cells: &mut [u16])
-    requires { ⌜ (row < m) × (m ≤ 4096) × (length (now cells) ≤ 4096) × (m * length (now cells) ≤ length (now store)) ⌝ }
-    ensures { λ _. ⌜ now (cells .exit) ≡ tabulate (λ q. pick (eqb (q % m) 0) (getD (now (cells .entry)) q 0) (cellAt (length (now (cells .entry))) (now (store .entry)) ((row + (m - q % m)) % m) q)) (length (now (cells .entry))) ⌝ }
+// A step on an end's store of so many places.
+fn step(emitter: bool, m: usize, places: usize, store: &mut [u16], cells: &mut [u16])
+    requires { ⌜ (0 < m) × (m ≤ capacity) × (length (now cells) ≤ capacity) × (places ≡ placesBefore (endDelay emitter m) (length (now cells))) × (places ≤ length (now store)) ⌝ }
+    ensures stored { λ _. ⌜ now (store .exit) ≡ moved (endDelay emitter m) (length (now (cells .entry))) (now (store .entry)) (now (cells .entry)) ⌝ }
+    ensures sent { λ _. ⌜ now (cells .exit) ≡ oldest (endDelay emitter m) (length (now (cells .entry))) (now (store .entry)) (now (cells .entry)) ⌝ }
 {
-    let n = cells.len();
-    let mut d: usize = 1;
-    let mut r = row;
-    while d < m {
-        r = row_before(r, m);
-        let from = r * n;
-        let to = from + n;
-        line(m, d, &store[from..to], cells);
-        d = d + 1;
+    if places == 0 {
+        return;
     }
+    let last = pass(emitter, m, store, cells);
+    shift(store, places);
+    store[places - 1] = last;
 }
 
-// The emitter's delay: the cells go into the row, and cell p comes from the row p mod m back.
-pub fn delay(m: usize, row: usize, store: &mut [u16], cells: &mut [u16])
-    requires { ⌜ (row < m) × (m ≤ 4096) × (length (now cells) ≤ 4096) × (m * length (now cells) ≤ length (now store)) ⌝ }
-    ensures stored { λ _. ⌜ now (store .exit) ≡ putRow (length (now (cells .entry))) (now (store .entry)) row (now (cells .entry)) ⌝ }
-    ensures delayed { λ _. ⌜ now (cells .exit) ≡ delayed m (length (now (cells .entry))) (λ p. p % m) (putRow (length (now (cells .entry))) (now (store .entry)) row (now (cells .entry))) row ⌝ }
+// The emitter's step: cell p is delayed by p mod m symbols.
+pub fn delay(m: usize, store: &mut [u16], cells: &mut [u16])
+    requires { ⌜ (0 < m) × (m ≤ capacity) × (length (now cells) ≤ capacity) × (placesBefore (emitterDelay m) (length (now cells)) ≤ length (now store)) ⌝ }
+    ensures stored { λ _. ⌜ now (store .exit) ≡ moved (emitterDelay m) (length (now (cells .entry))) (now (store .entry)) (now (cells .entry)) ⌝ }
+    ensures sent { λ _. ⌜ now (cells .exit) ≡ oldest (emitterDelay m) (length (now (cells .entry))) (now (store .entry)) (now (cells .entry)) ⌝ }
 {
-    let n = cells.len();
-    put_at(store, cells, row * n);
-    lift(m, row, store, cells);
+    step(
+        true,
+        m,
+        places::emitter_places(m, cells.len()),
+        store,
+        cells,
+    );
 }
 
-// The receiver's delay, the oldest row first: cell p comes from the row m - 1 - p mod m back.
-pub fn gather(m: usize, row: usize, store: &[u16], cells: &mut [u16])
-    requires { ⌜ (row < m) × (m ≤ 4096) × (length (now cells) ≤ 4096) × (m * length (now cells) ≤ length (now store)) ⌝ }
-    ensures { λ _. ⌜ now (cells .exit) ≡ delayed m (length (now (cells .entry))) (λ p. m - 1 - p % m) (now (store .entry)) row ⌝ }
+// The receiver's step: cell p is delayed by m - 1 less p mod m symbols.
+pub fn gather(m: usize, store: &mut [u16], cells: &mut [u16])
+    requires { ⌜ (0 < m) × (m ≤ capacity) × (length (now cells) ≤ capacity) × (placesBefore (receiverDelay m) (length (now cells)) ≤ length (now store)) ⌝ }
+    ensures stored { λ _. ⌜ now (store .exit) ≡ moved (receiverDelay m) (length (now (cells .entry))) (now (store .entry)) (now (cells .entry)) ⌝ }
+    ensures sent { λ _. ⌜ now (cells .exit) ≡ oldest (receiverDelay m) (length (now (cells .entry))) (now (store .entry)) (now (cells .entry)) ⌝ }
 {
-    let n = cells.len();
-    let mut left = m;
-    let mut r = row;
-    while left > 0 {
-        let d = m - left;
-        r = next_row(r, m);
-        let from = r * n;
-        let to = from + n;
-        line(m, d, &store[from..to], cells);
-        left = left - 1;
-    }
+    step(
+        false,
+        m,
+        places::receiver_places(m, cells.len()),
+        store,
+        cells,
+    );
 }

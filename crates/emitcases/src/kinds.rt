@@ -1,22 +1,22 @@
-// What a step of each number is given: phase, row, how much of data, store and symbol, and which data cells are spoiled. The list of the
+// What a step of each number is given: phase, how much of data, store and symbol, and which data cells are spoiled. The list of the
 // numbers stands in tests/emits.py.
 use rules::EmitterState;
 use trials::Sending;
 
 // The cells of the store, and of a symbol.
-pub(crate) const STORE: usize = 120000;
+pub(crate) const STORE: usize = 60000;
 
 pub(crate) const SYMBOL: usize = 4096;
 
 // One less, 0 of 0.
-fn less(n: usize) -> usize {
+pub(crate) fn less(n: usize) -> usize {
     if n == 0 {
         return 0;
     }
     n - 1
 }
 
-// What an emit of a number is given beside the right one, with N_D cells; need is M times N_I.
+// What an emit of a number is given beside the right one, with N_D cells; need is how many places the store needs.
 fn emitting(kind: u8, right: Sending, need: usize) -> Sending {
     let mut given = right;
     match kind {
@@ -27,7 +27,7 @@ fn emitting(kind: u8, right: Sending, need: usize) -> Sending {
         10 => given.store = need,
         12 => {
             given.count = 0;
-            given.row = std::num::wrapping_add_u32(right.row, 32);
+            given.phase = std::num::wrapping_add_u32(right.phase, 128);
             given.symbol = 4095;
         }
         14 => {
@@ -43,37 +43,34 @@ fn emitting(kind: u8, right: Sending, need: usize) -> Sending {
     given
 }
 
-// What a flush of a number is given beside the right one; m is M.
-fn flushing(kind: u8, right: Sending, m: u32) -> Sending {
+// What a flush of a number is given beside the right one.
+fn flushing(kind: u8, right: Sending, need: usize) -> Sending {
     let mut given = right;
     given.flush = true;
     given.count = 0;
     match kind {
-        6 => given.row = std::num::wrapping_add_u32(right.row, 32),
+        6 => given.phase = 128,
         8 => given.symbol = 4095,
         9 => given.symbol = 4097,
-        11 => {
-            given.phase = 4294967295;
-            given.row = 4294967295;
-        }
-        16 => given.row = m,
+        11 => given.phase = 4294967295,
+        16 => given.store = less(need),
+        18 => given.store = need,
         _ => {}
     }
     given
 }
 
-// What a step of a number is given; m is M, and nd is N_D. The numbers from 18 on are flushes.
-pub(crate) fn sending(kind: u8, state: EmitterState, m: u32, nd: usize, need: usize) -> Sending {
+// What a step of a number is given; nd is N_D. The numbers from 18 on are flushes.
+pub(crate) fn sending(kind: u8, state: EmitterState, nd: usize, need: usize) -> Sending {
     let right = Sending {
         flush: false,
         phase: state.phase,
-        row: state.row,
         count: nd,
         store: STORE,
         symbol: SYMBOL,
     };
     match kind {
-        1 | 6 | 8 | 9 | 11 | 16 | 18..=255 => flushing(kind, right, m),
+        1 | 6 | 8 | 9 | 11 | 16 | 18..=255 => flushing(kind, right, need),
         _ => emitting(kind, right, need),
     }
 }

@@ -66,7 +66,7 @@ fn step(
 ) -> Run {
     let state = run.state;
     let nd = trials::data_count(plan, state.phase);
-    let given = kinds::sending(kind, state, samples::depth_of(plan), nd, need);
+    let given = kinds::sending(kind, state, nd, need);
     let mut cells = [0u16; SYMBOL];
     let mut next = run;
     next.x = kinds::filled(run.x, kind, given.count, &mut cells);
@@ -87,13 +87,11 @@ fn steps(start: Run, plan: &[u8], need: usize, bytes: &[u8], store: &mut [u16; S
     run
 }
 
-// The checksum with two fresh starts of an accepted plan more: in one cell too few, which leaves the first cells as they were, and in
-// just enough.
+// The checksum with two fresh starts more: in one cell too few, none where none is needed, and in just enough. The one leaves the first
+// cells of a store that needs some as they were.
 fn mixed_tight(sum: u32, plan: &[u8], phase: u32, need: usize, store: &mut [u16; STORE]) -> u32 {
-    if need == 0 {
-        return sum;
-    }
-    let short = sums::mixed_start(sum, trials::fresh_emitter(plan, phase, need - 1, store));
+    let few = kinds::less(need);
+    let short = sums::mixed_start(sum, trials::fresh_emitter(plan, phase, few, store));
     let seen = sums::mixed_cells(short, store, 16);
     sums::mixed_start(seen, trials::fresh_emitter(plan, phase, need, store))
 }
@@ -138,7 +136,7 @@ fn started(
 
 // A case that is read: N_D, the fresh starts, the steps.
 fn start(plan: &[u8], phase: u32, bytes: &[u8], store: &mut [u16; STORE]) -> bool {
-    let need = trials::need_of(plan);
+    let need = trials::emitter_need(plan);
     let tight = mixed_tight(mixed_counts(plan), plan, phase, need, store);
     let answer = trials::fresh_emitter(plan, phase, STORE, store);
     let sum = sums::mixed_start(tight, answer);

@@ -8,7 +8,7 @@ use rules::EmitterState;
 use rules::SendAnswer;
 use rules::Verdict;
 
-// An emit or flush step; a flush reads no input. Where no ground refuses it, the input symbol goes into its row of the store, and the delayed
+// An emit or flush step; a flush reads no input. Where no ground refuses it, the input symbol goes to the places of its cells, and the delayed
 // cells go out on their subcarriers.
 fn send(
     plan: &[u8],
@@ -41,15 +41,14 @@ fn send(
         Verdict::Accepted(n) => {
             let ni = n as usize;
             let m = records::number_at(plan, 6);
-            let row = state.row as usize;
-            delay::delay(m, row, store, &mut x[..ni]);
+            delay::delay(m, store, &mut x[..ni]);
             line::place(d, plan, &marks, &car, &x[..ni], symbol);
-            SendAnswer::Sent(sending::next_state(m, state))
+            SendAnswer::Sent(sending::next_state(state))
         }
     }
 }
 
-// An emit step: the input goes into the current row as an input symbol, and one symbol on the line is sent.
+// An emit step: the input goes to the places of its cells as an input symbol, and one symbol on the line is sent.
 pub fn emit(
     plan: &[u8],
     state: EmitterState,

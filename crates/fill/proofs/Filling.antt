@@ -1,41 +1,22 @@
--- Loops that fill a row cell after cell, and their single turns. Assumes nothing.
-use Prim.Native.Nat.{ℕ, _+_, _≤_, _<_}
+-- The cells of an input symbol and what its flags say of them, one by one and by the block. Assumes nothing.
+use Prim.Native.Nat.{ℕ, zero, suc, _+_, _≤_, _<_}
 use mathlib.Core.Path.{_≡_, refl, sym, ap, _∙_}
 use mathlib.Core.Logic.{by-cases}
-use mathlib.Core.Bool.{true, false}
+use mathlib.Core.Bool.{Bool, true, false, _&&_}
 use mathlib.Core.List.{List}
-use native.Mathlib.Decide.{decLt}
+use native.Mathlib.Nat.{add-zero}
+use native.Mathlib.Numerals.{add-one}
+use native.Mathlib.Decide.{decLt, le-ind}
 use native.Mathlib.Omega.{arith}
-use lib.ListN.{length, getD, set, length-set}
-use lib.Seq.{getD-set-same, getD-set-other}
+use lib.Bits.{bitOr, or-zero-l, or-add-and, and-le-r}
+use lib.Dec.{eqb, eqb·suc-zero}
+use lib.ListN.{getD}
 use borrow.Author.Tests.{eq-eqb, ne-eqb}
-use Rattle.counting.specs.Search.{bit, sum, count, tabulate, isZero}
+use Rattle.counting.specs.Search.{bit, sum, count, isZero}
+use Rattle.counting.proofs.Bools.{and-left, and-right}
 use Rattle.counting.proofs.Laws.{count-lt, count-step}
-use Rattle.counting.proofs.Lists.{is-tabulate}
 use Rattle.rules.specs.Frame.{placeholder, filler}
-use Rattle.fill.specs.Flags.{dataCell, fillerCell}
-
--- a row of n cells: those below p follow the rule f
-pub record Filled (n p : ℕ) (f : ℕ → ℕ) (row : List ℕ) : Type 0 where
-  pub long : length row ≡ n
-  pub below : (q : ℕ) → q < p → getD row q 0 ≡ f q
-
-pub filled-start : (f : ℕ → ℕ) (row : List ℕ) → Filled (length row) 0 f row
-filled-start f row = record { long = refl; below = λ q h. absurd (omega arith) }
-
--- y is the row with cell p stored
-pub filled-put : (n p : ℕ) (f : ℕ → ℕ) (row y : List ℕ) (v : ℕ) → Filled n p f row → p < n → y ≡ set row p v → v ≡ f p → Filled n (p + 1) f y
-filled-put n p f row y v l h ey e = record {
-  long = ap length ey ∙ length-set row p v ∙ l .long;
-  below = λ q k.
-      rw ey
-      (by-cases (decLt q p)
-      (λ c. getD-set-other row p q v 0 (λ z. absurd (omega arith)) ∙ l .below q c)
-      (λ c. let z : q ≡ p = omega arith in rw z (getD-set-same row p v 0 (omega (arith, l .long)) ∙ e)));
-}
-
-pub filled-all : (n p : ℕ) (f : ℕ → ℕ) (row : List ℕ) → n ≤ p → Filled n p f row → row ≡ tabulate f n
-filled-all n p f row h l = is-tabulate row n f (l .long) (λ q k. l .below q (omega arith))
+use Rattle.fill.specs.Flags.{allData, dataCell, fillerCell}
 
 -- ---- one flag
 pub zero-yes : (l : List ℕ) (p : ℕ) → getD l p 0 ≡ 0 → isZero l p ≡ true
@@ -46,51 +27,87 @@ pub zero-no : (l : List ℕ) (p : ℕ) → (getD l p 0 ≡ 0 → ⊥) → isZero
 unfolding isZero
 zero-no l p e = ne-eqb (getD l p 0) 0 e
 
--- ---- the input symbol of data: the cells below p are filled, with the first d of the data
-pub record Filling (flag ds : List ℕ) (n : ℕ) (row : List ℕ) (p d : ℕ) : Type 0 where
-  pub cells : Filled n p (dataCell flag ds) row
-  pub used : d ≡ count (isZero flag) p
-
-pub filling-start : (flag ds row : List ℕ) → Filling flag ds (length row) row 0 0
+-- ---- data cells counted
+pub none-below : (flag : List ℕ) → 0 ≡ count (isZero flag) 0
 unfolding count sum
-filling-start flag ds row = record { cells = filled-start (dataCell flag ds) row; used = refl }
+none-below flag = refl
 
-module _ (flag ds : List ℕ) (n : ℕ) (row : List ℕ) (p d : ℕ) (f : Filling flag ds n row p d) (h : p < n) where
-  -- a data cell: there is a number for it
-  pub filling-in : getD flag p 0 ≡ 0 → count (isZero flag) n ≤ length ds → d < length ds
-  filling-in z m = omega (arith, f .used, count-lt (isZero flag) p n h (zero-yes flag p z))
+pub count-up : (t : ℕ → Bool) (a n : ℕ) → a ≤ n → count t a ≤ count t n
+unfolding count sum
+count-up t a n h = le-ind (λ (m : ℕ). count t a ≤ count t m) (omega arith) (λ m _ k. omega arith) n h
 
-  module _ (y : List ℕ) (d′ : ℕ) where
-    -- a data cell takes the next number
-    pub filling-data : getD flag p 0 ≡ 0 → y ≡ set row p (getD ds d 0) → d′ ≡ d + 1 → Filling flag ds n y (p + 1) d′
-    unfolding dataCell
-    filling-data z ey ed =
-        let t = zero-yes flag p z in record {
-          cells = filled-put n p (dataCell flag ds) row y (getD ds d 0) (f .cells) h ey (rw (t, f .used) refl);
-          used = omega (arith, ed, f .used, count-step (isZero flag) p, ap bit t);
-        }
+count-next : (t : ℕ → Bool) (p i : ℕ) → count t (p + (i + 1)) ≡ count t (p + i) + bit (t (p + i))
+count-next t p i = let z : p + (i + 1) ≡ p + i + 1 = omega arith in ap (count t) z ∙ count-step t (p + i)
 
-    -- a placeholder takes none
-    pub filling-held : (getD flag p 0 ≡ 0 → ⊥) → y ≡ set row p placeholder → d′ ≡ d → Filling flag ds n y (p + 1) d′
-    unfolding dataCell
-    filling-held z ey ed =
-        let t = zero-no flag p z in record {
-          cells = filled-put n p (dataCell flag ds) row y placeholder (f .cells) h ey (rw t refl);
-          used = omega (arith, ed, f .used, count-step (isZero flag) p, ap bit t);
-        }
+-- ---- cell p + i, with d data cells below it
+module _ (flag : List ℕ) (p i d : ℕ) (e : d ≡ count (isZero flag) (p + i)) where
+  -- a data cell is one more
+  pub data-next : getD flag (p + i) 0 ≡ 0 → (d′ : ℕ) → d′ ≡ d + 1 → d′ ≡ count (isZero flag) (p + (i + 1))
+  data-next z d′ ed = omega (arith, ed, e, count-next (isZero flag) p i, ap bit (zero-yes flag (p + i) z))
 
--- ---- the input symbol of a flush
-module _ (flag : List ℕ) (n p : ℕ) (row y : List ℕ) (l : Filled n p (fillerCell flag) row) (h : p < n) where
-  pub filler-data : getD flag p 0 ≡ 0 → y ≡ set row p filler → Filled n (p + 1) (fillerCell flag) y
-  unfolding fillerCell
-  filler-data z ey = filled-put n p (fillerCell flag) row y filler l h ey (rw (zero-yes flag p z) refl)
+  -- a placeholder is not
+  pub held-next : (getD flag (p + i) 0 ≡ 0 → ⊥) → (d′ : ℕ) → d′ ≡ d → d′ ≡ count (isZero flag) (p + (i + 1))
+  held-next z d′ ed = omega (arith, ed, e, count-next (isZero flag) p i, ap bit (zero-no flag (p + i) z))
 
-  pub filler-held : (getD flag p 0 ≡ 0 → ⊥) → y ≡ set row p placeholder → Filled n (p + 1) (fillerCell flag) y
-  unfolding fillerCell
-  filler-held z ey = filled-put n p (fillerCell flag) row y placeholder l h ey (rw (zero-no flag p z) refl)
+  -- there is room for a data cell in a list for those below cell p + k
+  pub data-room : getD flag (p + i) 0 ≡ 0 → (k m : ℕ) → i < k → count (isZero flag) (p + k) ≤ m → d < m
+  data-room z k m h r = omega (arith, e, count-lt (isZero flag) (p + i) (p + k) (omega arith) (zero-yes flag (p + i) z))
 
--- ---- flags added up
-pub sum-next : (flag : List ℕ) (a i s x : ℕ) → x ≡ getD flag i 0 → (s ≡ 0 → (k : ℕ) → a ≤ k → k < i → getD flag k 0 ≡ 0)
-    → s + x ≡ 0 → (k : ℕ) → a ≤ k → k < i + 1 → getD flag k 0 ≡ 0
-sum-next flag a i s x ex inv z k lo hi =
-    by-cases (decLt k i) (λ c. inv (omega arith) k lo c) (λ c. let e : k ≡ i = omega arith in rw e (sym ex ∙ omega arith))
+  -- a data cell takes the next number
+  pub data-cell : (ds : List ℕ) → getD flag (p + i) 0 ≡ 0 → getD ds d 0 ≡ dataCell flag ds (p + i)
+  unfolding dataCell
+  data-cell ds z = rw (zero-yes flag (p + i) z, e) refl
+
+pub held-cell : (flag ds : List ℕ) (p : ℕ) → (getD flag p 0 ≡ 0 → ⊥) → placeholder ≡ dataCell flag ds p
+unfolding dataCell
+held-cell flag ds p z = rw (zero-no flag p z) refl
+
+-- ---- a cell of a flush
+pub filler-free : (flag : List ℕ) (p : ℕ) → getD flag p 0 ≡ 0 → filler ≡ fillerCell flag p
+unfolding fillerCell
+filler-free flag p z = rw (zero-yes flag p z) refl
+
+pub filler-held : (flag : List ℕ) (p : ℕ) → (getD flag p 0 ≡ 0 → ⊥) → placeholder ≡ fillerCell flag p
+unfolding fillerCell
+filler-held flag p z = rw (zero-no flag p z) refl
+
+-- ---- flags joined bit by bit
+or-zero : (a b : ℕ) → eqb (bitOr a b) 0 ≡ (eqb a 0 && eqb b 0)
+or-zero zero b = ap (λ (n : ℕ). eqb n 0) (or-zero-l b)
+or-zero (suc a) b =
+    ne-eqb (bitOr (suc a) b) 0 (λ z. absurd (omega (arith, or-add-and (suc a) b, and-le-r (suc a) b)))
+    ∙ sym (ap (λ (t : Bool). t && eqb b 0) (eqb·suc-zero a))
+
+-- ---- a block without a placeholder
+pub all-data-start : (flag : List ℕ) (p : ℕ) → eqb 0 0 ≡ allData flag p 0
+unfolding allData
+all-data-start flag p = refl
+
+pub all-data-next : (flag : List ℕ) (p k s x : ℕ) → eqb s 0 ≡ allData flag p k → x ≡ getD flag (p + k) 0 → eqb (bitOr s x) 0 ≡ allData flag p (k + 1)
+unfolding allData isZero
+all-data-next flag p k s x e ex = rw (add-one, or-zero s x, e, ex) refl
+
+-- its cells are data cells
+pub all-data-at : (flag : List ℕ) (p k : ℕ) → allData flag p k ≡ true → (i : ℕ) → i < k → isZero flag (p + i) ≡ true
+unfolding allData
+all-data-at flag p zero e i h = absurd (omega arith)
+all-data-at flag p (suc k) e i h =
+    by-cases (decLt i k)
+    (λ c. all-data-at flag p k (and-left (allData flag p k) (isZero flag (p + k)) e) i c)
+    (λ c. let z : i ≡ k = omega arith in rw z (and-right (allData flag p k) (isZero flag (p + k)) e))
+
+-- and there are as many of them below cell p + i as below cell p, and i more
+pub all-data-count : (flag : List ℕ) (p k : ℕ) → allData flag p k ≡ true → (i : ℕ) → i ≤ k → count (isZero flag) (p + i) ≡ count (isZero flag) p + i
+all-data-count flag p k e zero h = ap (count (isZero flag)) (add-zero p) ∙ sym (add-zero (count (isZero flag) p))
+all-data-count flag p k e (suc i) h =
+    let z : p + suc i ≡ p + i + 1 = omega arith in
+    rw z (omega (arith, count-step (isZero flag) (p + i), ap bit (all-data-at flag p k e i (omega arith)), all-data-count flag p k e i (omega arith)))
+
+-- they take the next numbers
+pub all-data-cell : (flag ds : List ℕ) (p k d : ℕ) → d ≡ count (isZero flag) p → allData flag p k ≡ true → (i : ℕ) → i < k → getD ds (d + i) 0 ≡ dataCell flag ds (p + i)
+unfolding dataCell
+all-data-cell flag ds p k d ed e i h = rw (all-data-at flag p k e i h, all-data-count flag p k e i (omega arith), ed) refl
+
+-- there is room for them in a list for those below cell n
+pub all-data-room : (flag : List ℕ) (p k d : ℕ) → d ≡ count (isZero flag) p → allData flag p k ≡ true → (n m : ℕ) → p + k ≤ n → count (isZero flag) n ≤ m → d + k ≤ m
+all-data-room flag p k d ed e n m h r = omega (arith, ed, all-data-count flag p k e k (omega arith), count-up (isZero flag) (p + k) n h)

@@ -1,4 +1,4 @@
--- The rows that are filled from the flags of a frame's placeholders are the frame's input symbols, and the data taken from one is the frame's
+-- The cells that are filled from the flags of a frame's placeholders are the frame's input symbols, and the data taken from one is the frame's
 -- data of it. Assumes nothing.
 use Prim.Native.Nat.{ℕ, _≤_, _<_}
 use mathlib.Core.Path.{_≡_, refl, sym, ap, _∙_}
@@ -36,11 +36,11 @@ module _ (F : Frame) (j : ℕ) (flag : List ℕ) (hf : Flagged F j flag) where
   unfolding dataCount
   free-count n e = rw e (free-below (cells F) (omega arith))
 
-  -- what `fill_data` leaves in a row of N_I cells
-  pub filled : (ds row : List ℕ) (n : ℕ) → n ≡ cells F → row ≡ tabulate (dataCell flag ds) n → row ≡ inputCells F j (symbol ds)
+  -- what `fill_data` leaves in N_I cells
+  pub filled : (ds x : List ℕ) (n : ℕ) → n ≡ cells F → x ≡ tabulate (dataCell flag ds) n → x ≡ inputCells F j (symbol ds)
   unfolding inputCells dataList dataCell isData
-  filled ds row n e er =
-      er ∙ ap (tabulate (dataCell flag ds)) e
+  filled ds x n e ex =
+      ex ∙ ap (tabulate (dataCell flag ds)) e
       ∙ tabulate-cong _ _ (cells F) (λ p h. rw (free p h, free-below p (omega arith)) (not-pick (held F j p) _ _))
 
   filler-at : (p : ℕ) → p < cells F → fillerCell flag p ≡ pick (held F j p) placeholder (getD (replicate (dataCount F j) filler) (count (isData F j) p) 0)
@@ -50,10 +50,10 @@ module _ (F : Frame) (j : ℕ) (flag : List ℕ) (hf : Flagged F j flag) where
       (λ e. rw (free p h, e) refl)
       (λ e. rw (free p h, e) (sym (getD-replicate (dataCount F j) (count (isData F j) p) filler 0 (count-lt (isData F j) p (cells F) h (ap not e)))))
 
-  -- what `fill_filler` leaves in a row of N_I cells
-  pub flushed : (row : List ℕ) (n : ℕ) → n ≡ cells F → row ≡ tabulate (fillerCell flag) n → row ≡ inputCells F j flush
+  -- what `fill_filler` leaves in N_I cells
+  pub flushed : (x : List ℕ) (n : ℕ) → n ≡ cells F → x ≡ tabulate (fillerCell flag) n → x ≡ inputCells F j flush
   unfolding inputCells dataList
-  flushed row n e er = er ∙ ap (tabulate (fillerCell flag)) e ∙ tabulate-cong _ _ (cells F) filler-at
+  flushed x n e ex = ex ∙ ap (tabulate (fillerCell flag)) e ∙ tabulate-cong _ _ (cells F) filler-at
 
 -- what `take_data` takes from an input symbol of N_I cells
 pub taken : (F : Frame) (j : ℕ) (flag x : List ℕ) → length x ≡ cells F → Flagged F j flag → takenData flag x ≡ dataOf F j x

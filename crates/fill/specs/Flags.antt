@@ -1,10 +1,16 @@
 -- Input symbols from flags, one for each cell: 0 for a data cell, another number for a placeholder. Assumes nothing.
-use Prim.Native.Nat.{ℕ, _<_}
+use Prim.Native.Nat.{ℕ, zero, suc, _+_, _<_}
 use mathlib.Core.Path.{_≡_}
+use mathlib.Core.Bool.{Bool, true, _&&_}
 use mathlib.Core.List.{List}
 use lib.ListN.{length, getD}
 use Rattle.counting.specs.Search.{bit, pick, count, select, tabulate, isZero}
 use Rattle.rules.specs.Frame.{Frame, cells, held, placeholder, filler}
+
+-- the k cells from cell p on are all data cells
+unfoldable pub allData : List ℕ → ℕ → ℕ → Bool
+allData flag p zero = true
+allData flag p (suc k) = allData flag p k && isZero flag (p + k)
 
 -- cell p of the input symbol of the data ds
 unfoldable pub dataCell : List ℕ → List ℕ → ℕ → ℕ

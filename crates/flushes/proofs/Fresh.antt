@@ -1,17 +1,36 @@
--- How a fresh store is filled: with one number, cell after cell, and an emitter's row after row. Assumes nothing.
+-- How a fresh store is filled: with filler, place after place, and an emitter's then with the placeholders, cell after cell. Assumes nothing.
 use mathlib.Core.Path.{_≡_, refl, sym, ap, _∙_}
+use mathlib.Core.Bool.{Bool, not}
+use mathlib.Core.Logic.{by-cases}
 use mathlib.Core.List.{List, [], _∷_, _++_}
-use Prim.Native.Nat.{ℕ, zero, suc, _+_, _-_, _*_, _/_, _%_, _≤_, _<_}
-use native.Mathlib.Nat.{add-zero, add-suc, suc-add, zero-add, zero-mul, suc-mul, mul-add-div-right, mul-add-mod-self-right, div-eq-of-lt, mod-eq-of-lt}
-use native.Mathlib.Numerals.{add-one}
+use Prim.Native.Nat.{ℕ, zero, suc, _+_, _-_, _%_, _≤_, _<_}
+use native.Mathlib.Nat.{add-zero, add-suc, suc-add, zero-add, mod-lt, mod-add-mod, add-mod-right}
+use native.Mathlib.Decide.{decLt, ℕ-discrete}
 use native.Mathlib.Omega.{arith}
+use lib.Dec.{eqb}
 use lib.ListN.{length, getD, set, take, replicate, length-replicate, getD-replicate}
-use lib.Seq.{sets}
-use Rattle.counting.specs.Search.{tabulate}
-use Rattle.counting.proofs.Lists.{length-tabulate, is-tabulate, tabulate-cong, sets-snoc}
-use Rattle.rules.specs.Frame.{Frame, cells, flush, inputCells, phaseBack, filler}
-use Rattle.rules.specs.Store.{freshCell, freshStore, fillerStore}
-use Rattle.frame.proofs.Cells.{length-input}
+use lib.Seq.{sets, length-sets, getD-set-same, getD-set-other, ext-getD}
+use borrow.Author.Tests.{lt-ltb, le-ltb, eq-eqb, ne-eqb}
+use Rattle.counting.specs.Search.{pick, count, tabulate}
+use Rattle.counting.proofs.Bools.{by-test}
+use Rattle.counting.proofs.Laws.{count-lt}
+use Rattle.counting.proofs.Lists.{length-tabulate, getD-tabulate, tabulate-cong, getD-sets-before, getD-sets-after, getD-sets-in, getD-sets-0, sets-snoc}
+use Rattle.rules.specs.declared.Device.{Device}
+use Rattle.rules.specs.Device.{phases}
+use Rattle.rules.specs.Plan.{planOf}
+use Rattle.rules.specs.Frame.{Frame, frameOf, cells, spot, delay, phaseBack, held, isData, dataCount, dataList, inputCells, flush, placeholder, filler}
+use Rattle.rules.specs.Places.{emitterDelay, joined, placesBefore}
+use Rattle.rules.specs.Store.{emitterPlaces, receiverPlaces, freshPlaces, freshStore, fillerStore}
+use Rattle.frame.proofs.Cells.{input-held, input-data}
+use Rattle.spots.specs.Tied.{Turning}
+use Rattle.spots.proofs.Plans.{turning-of}
+use Rattle.places.proofs.Kept.{start-grow, joined-length}
+use Rattle.places.proofs.Sizes.{emitter-places-are}
+use Rattle.flushes.specs.Spotted.{Spotted}
+use Rattle.flushes.specs.Placeholders.{symbolsUntil, withPlaceholder, withPlaceholders}
+use Rattle.flushes.proofs.Putting.{length-with}
+
+-- ---- filler
 
 -- one more cell of the number v
 pub same-next : (s : List ℕ) (n v i : ℕ) → i < n → set (sets s 0 (take i (replicate n v))) i v ≡ sets s 0 (take (suc i) (replicate n v))
@@ -19,70 +38,174 @@ same-next s n v i h =
     sym (λ k. set (sets s 0 (take i (replicate n v))) (zero-add i k) (getD-replicate n i v 0 h k))
     ∙ sets-snoc s 0 (replicate n v) i (omega (arith, length-replicate n v))
 
--- a receiver's store: all cells of m rows of n
-pub all-filler : (F : Frame) (s : List ℕ) (m n : ℕ) → m ≡ F .depth → n ≡ cells F → sets s 0 (replicate (m * n) filler) ≡ fillerStore F s
+-- a receiver's store: all its places
+pub all-filler : (F : Frame) (s : List ℕ) (n : ℕ) → n ≡ receiverPlaces F → sets s 0 (replicate n filler) ≡ fillerStore F s
 unfolding fillerStore
-all-filler F s m n em en = λ i. sets s 0 (replicate (em i * en i) filler)
+all-filler F s n e = ap (λ (k : ℕ). sets s 0 (replicate k filler)) e
+
+-- ---- placeholders put among filler
+
+-- place k of a cell on which the pattern stands i symbols on
+abbrev madePlace : ℕ → ℕ → ℕ
+madePlace i k = pick (eqb k i) placeholder filler
 
 -- a list stored after another is both stored
 sets-append : (s : List ℕ) (at : ℕ) (xs ys : List ℕ) → sets (sets s at xs) (at + length xs) ys ≡ sets s at (xs ++ ys)
 sets-append s at [] ys = ap (λ (i : ℕ). sets s i ys) (add-zero at)
 sets-append s at (x ∷ xs) ys = ap (λ (i : ℕ). sets (sets (set s at x) (suc at) xs) i ys) (add-suc at (length xs) ∙ sym (suc-add at (length xs))) ∙ sets-append (set s at x) (suc at) xs ys
 
--- a rule's list in two parts
-tabulate-add : (f : ℕ → ℕ) (a b : ℕ) → tabulate f (a + b) ≡ tabulate f a ++ tabulate (λ i. f (a + i)) b
-unfolding tabulate
-tabulate-add f zero b = ap (tabulate f) (zero-add b) ∙ tabulate-cong f (λ i. f (0 + i)) b (λ i l. ap f (sym (zero-add i)))
-tabulate-add f (suc a) b =
-    ap (tabulate f) (suc-add a b)
-    ∙ ap (λ (l : List ℕ). f 0 ∷ l) (tabulate-add (λ i. f (suc i)) a b ∙ ap (λ (l : List ℕ). tabulate (λ i. f (suc i)) a ++ l) (tabulate-cong (λ i. f (suc (a + i))) (λ i. f (suc a + i)) b (λ i l. ap f (sym (suc-add a i)))))
+-- a list stored over one as long
+sets-over : (s xs ys : List ℕ) → length xs ≡ length ys → length ys ≤ length s → sets (sets s 0 xs) 0 ys ≡ sets s 0 ys
+sets-over s xs ys e h =
+    ext-getD 0 (sets (sets s 0 xs) 0 ys) (sets s 0 ys) (length-sets (sets s 0 xs) 0 ys ∙ length-sets s 0 xs ∙ sym (length-sets s 0 ys))
+    (λ k l.
+    by-cases (decLt k (length ys))
+    (λ c. getD-sets-0 (sets s 0 xs) ys 0 k c (rw length-sets h) ∙ sym (getD-sets-0 s ys 0 k c h))
+    (λ c. getD-sets-after (sets s 0 xs) 0 ys 0 k (omega arith) ∙ getD-sets-after s 0 xs 0 k (omega arith) ∙ sym (getD-sets-after s 0 ys 0 k (omega arith))))
 
-module _ (F : Frame) (j : ℕ) (s : List ℕ) where
-  -- the cells of the store, flat
-  unfoldable pub flat : ℕ → ℕ
-  flat k = freshCell F j (k / cells F) (k % cells F)
+-- the n places of a cell, which hold filler
+module _ (s : List ℕ) (at n i : ℕ) (long : at + n ≤ length s) (full : (k : ℕ) → k < n → getD s (at + k) 0 ≡ filler) where
+  -- any place but the i-th stays
+  stays : (k : ℕ) → (k < at + n → at ≤ k → k - at ≡ i → ⊥) → getD (withPlaceholder at n i s) k 0 ≡ getD s k 0
+  unfolding withPlaceholder
+  stays k h =
+      by-cases (decLt i n)
+      (λ c. rw (lt-ltb i n c) (getD-set-other s (at + i) k placeholder 0 (λ z. h (omega arith) (omega arith) (omega arith))))
+      (λ c. rw (le-ltb i n (omega arith)) refl)
 
-  -- the lent store once its first i rows are made
-  unfoldable pub madeRows : ℕ → List ℕ
-  madeRows i = sets s 0 (tabulate flat (i * cells F))
+  own : (k : ℕ) → k < n → getD (withPlaceholder at n i s) (at + k) 0 ≡ madePlace i k
+  own k h =
+      by-cases (ℕ-discrete k i)
+      (λ e. rw (eq-eqb k i e) (holds k h e))
+      (λ e. rw (ne-eqb k i e) (stays (at + k) (λ a b z. e (omega arith)) ∙ full k h))
+    where
+      holds : (k : ℕ) → k < n → k ≡ i → getD (withPlaceholder at n i s) (at + k) 0 ≡ placeholder
+      holds k h e =
+          let c : i < n = omega arith in
+          unfold withPlaceholder in rw (lt-ltb i n c, e) (getD-set-same s (at + i) placeholder 0 (omega arith))
 
-  flat-at : (i p : ℕ) → p < cells F → flat (i * cells F + p) ≡ freshCell F j i p
-  unfolding flat
-  flat-at i p h =
-      let pos : 0 < cells F = omega arith in
-      λ k. freshCell F j ((mul-add-div-right pos i p ∙ ap (λ (z : ℕ). i + z) (div-eq-of-lt h) ∙ add-zero i) k) ((mul-add-mod-self-right i (cells F) p ∙ mod-eq-of-lt h) k)
+  cell-put : withPlaceholder at n i s ≡ sets s at (tabulate (madePlace i) n)
+  cell-put =
+      ext-getD 0 (withPlaceholder at n i s) (sets s at (tabulate (madePlace i) n)) (length-with at n i s ∙ sym (length-sets s at (tabulate (madePlace i) n)))
+      (λ k l.
+      by-cases (decLt k at)
+      (λ c. stays k (λ a b z. absurd (omega arith)) ∙ sym (getD-sets-before s at (tabulate (madePlace i) n) 0 k c))
+      (λ c.
+      by-cases (decLt k (at + n))
+      (λ g.
+      let e : at + (k - at) ≡ k = omega arith in
+      let low : k - at < n = omega arith in
+      rw e at (own (k - at) low ∙ sym (getD-sets-in s at (tabulate (madePlace i) n) 0 (k - at) (rw length-tabulate low) (omega arith) ∙ getD-tabulate (madePlace i) n 0 (k - at) low)))
+      (λ g. stays k (λ a b z. absurd (omega arith)) ∙ sym (getD-sets-after s at (tabulate (madePlace i) n) 0 k (omega (arith, length-tabulate (madePlace i) n))))))
 
-  -- one more row
-  made-next : (i : ℕ) (x : List ℕ) → length x ≡ cells F → ((p : ℕ) → p < cells F → getD x p 0 ≡ freshCell F j i p) → sets (madeRows i) (i * cells F) x ≡ madeRows (suc i)
-  unfolding madeRows
-  made-next i x e h =
-      ap (sets (madeRows i) (i * cells F)) (is-tabulate x (cells F) (λ p. flat (i * cells F + p)) e (λ p l. h p l ∙ sym (flat-at i p l)))
-      ∙ ap (λ (k : ℕ). sets (madeRows i) k (tabulate (λ p. flat (i * cells F + p)) (cells F))) (sym (zero-add (length (tabulate flat (i * cells F))) ∙ length-tabulate flat (i * cells F)))
-      ∙ sets-append s 0 (tabulate flat (i * cells F)) (tabulate (λ p. flat (i * cells F + p)) (cells F))
-      ∙ ap (sets s 0) (sym (tabulate-add flat (i * cells F) (cells F)) ∙ ap (tabulate flat) (sym (suc-mul i (cells F))))
+-- the places of cell p, whose subcarrier is kc p
+madePlaces : ℕ → ℕ → List ℕ → ℕ → List ℕ
+madePlaces m base kc p = tabulate (madePlace (symbolsUntil base (getD kc p 0))) (emitterDelay m p)
 
-  -- row 0 is filler
-  first-made : sets s 0 (replicate (cells F) filler) ≡ madeRows 1
-  unfolding madeRows freshCell tabulate
-  first-made =
-      (λ i. sets (sets s 0 (tabulate flat (sym (zero-mul (cells F)) i))) (sym (zero-mul (cells F)) i) (replicate (cells F) filler))
-      ∙ made-next 0 (replicate (cells F) filler) (length-replicate (cells F) filler) (λ p l. getD-replicate (cells F) p filler 0 l)
+module _ (m base n : ℕ) (kc t : List ℕ) (long : placesBefore (emitterDelay m) n ≤ length t) (full : (k : ℕ) → k < placesBefore (emitterDelay m) n → getD t k 0 ≡ filler) where
+  made : ℕ → List ℕ
+  made = madePlaces m base kc
 
-  -- row i from 1 on is the flush at the phase of M - i symbols back
-  row-made : (i : ℕ) → 0 < i → sets (madeRows i) (i * cells F) (inputCells F (phaseBack F j (F .depth - i)) flush) ≡ madeRows (suc i)
-  unfolding freshCell
-  row-made zero h = absurd (omega arith)
-  row-made (suc i) h = made-next (suc i) (inputCells F (phaseBack F j (F .depth - suc i)) flush) (length-input F (phaseBack F j (F .depth - suc i)) flush) (λ p l. refl)
+  length-made : (p : ℕ) → length (joined made p) ≡ placesBefore (emitterDelay m) p
+  unfolding made madePlaces
+  length-made p = joined-length made (emitterDelay m) p (λ q h. length-tabulate (madePlace (symbolsUntil base (getD kc q 0))) (emitterDelay m q))
 
-  -- ---- for loops that make m rows of n cells, one after the other
+  -- one more cell
+  next-put : (p : ℕ) → sets (sets t 0 (joined made p)) (placesBefore (emitterDelay m) p) (made p) ≡ sets t 0 (joined made (suc p))
+  unfolding joined
+  next-put p =
+      ap (λ (k : ℕ). sets (sets t 0 (joined made p)) k (made p)) (sym (zero-add (length (joined made p)) ∙ length-made p))
+      ∙ sets-append t 0 (joined made p) (made p)
 
-  pub first-row : (n : ℕ) → n ≡ cells F → sets s 0 (replicate n filler) ≡ madeRows 1
-  first-row n en = ap (λ (k : ℕ). sets s 0 (replicate k filler)) en ∙ first-made
+  all-put : (p : ℕ) → p ≤ n → withPlaceholders m base kc t p ≡ sets t 0 (joined made p)
+  unfolding withPlaceholders made madePlaces
+  all-put zero h = unfold joined in refl
+  all-put (suc p) h =
+      let at : ℕ = placesBefore (emitterDelay m) p in
+      let i : ℕ = symbolsUntil base (getD kc p 0) in
+      let grow : at + emitterDelay m p ≤ placesBefore (emitterDelay m) n = start-grow (emitterDelay m) p n h in
+      ap (withPlaceholder at (emitterDelay m p) i) (all-put p (omega arith))
+      ∙ cell-put (sets t 0 (joined made p)) at (emitterDelay m p) i (omega (arith, length-sets t 0 (joined made p)))
+      (λ k l. getD-sets-after t 0 (joined made p) 0 (at + k) (omega (arith, length-made p)) ∙ full (at + k) (omega arith))
+      ∙ next-put p
 
-  pub next-row : (m n i : ℕ) → m ≡ F .depth → n ≡ cells F → 0 < i → sets (madeRows i) (i * n) (inputCells F (phaseBack F j (m - i)) flush) ≡ madeRows (i + 1)
-  next-row m n i em en h =
-      (λ k. sets (madeRows i) (i * en k) (inputCells F (phaseBack F j (em k - i)) flush)) ∙ row-made i h ∙ ap madeRows (sym (add-one i))
+-- ---- a fresh emitter's places
 
-  pub all-rows : (i m : ℕ) → m ≡ F .depth → i ≤ m → m ≤ i → madeRows i ≡ freshStore F j s
-  unfolding madeRows freshStore flat
-  all-rows i m em lo hi = ap madeRows (let e : i ≡ F .depth = omega arith in e)
+-- a flush has placeholders and filler
+flush-cell : (F : Frame) (j p : ℕ) → p < cells F → getD (inputCells F j flush) p 0 ≡ pick (held F j p) placeholder filler
+unfolding dataList isData dataCount
+flush-cell F j p hp =
+    by-test (held F j p)
+    (λ q. rw q (input-held F j flush p hp q))
+    (λ q. rw q (input-data F j flush p hp q ∙ getD-replicate (dataCount F j) (count (isData F j) p) filler 0 (count-lt (isData F j) p (cells F) hp (ap not q))))
+
+-- the pattern stands on subcarrier k once in 128 symbols
+once : (base k i : ℕ) → i < phases → eqb (k % phases) ((base + i) % phases) ≡ eqb i (symbolsUntil base k)
+unfolding symbolsUntil
+once base k i h =
+    by-cases (ℕ-discrete i (symbolsUntil base k))
+    (λ e. rw (eq-eqb i (symbolsUntil base k) e, eq-eqb (k % phases) ((base + i) % phases) (omega arith)) refl)
+    (λ e. rw (ne-eqb i (symbolsUntil base k) e, ne-eqb (k % phases) ((base + i) % phases) (λ z. e (omega arith))) refl)
+
+module _ (F : Frame) (base : ℕ) (t : Turning F base) (j : ℕ) (fits : F .depth ≤ F .phases) (pos : 0 < F .depth) where
+  -- place i of cell p is sent at phase j + i
+  held-until : (p i : ℕ) → i < delay F p → held F (phaseBack F j (delay F p - i)) p ≡ eqb i (symbolsUntil (base + j) (spot F p))
+  unfolding held
+  held-until p i h =
+      let d : delay F p < F .depth = mod-lt p pos in
+      let e : j + (F .phases - (delay F p - i)) + delay F p ≡ j + i + F .phases = omega arith in
+      ap (λ (x : ℕ). F .pattern x (spot F p)) (mod-add-mod (j + (F .phases - (delay F p - i))) (F .phases) (delay F p) ∙ ap (λ (x : ℕ). x % F .phases) e ∙ add-mod-right (j + i) (F .phases))
+      ∙ t .pattern ((j + i) % F .phases) (spot F p)
+      ∙ ap (eqb (spot F p % phases)) (turn i)
+      ∙ once (base + j) (spot F p) i (omega (arith, t .period))
+    where
+      turn : (i : ℕ) → (base + (j + i) % F .phases) % phases ≡ (base + j + i) % phases
+      turn i = ap (λ (x : ℕ). (base + (j + i) % x) % phases) (t .period) ∙ omega arith
+
+  places-are : (p : ℕ) → p < cells F → freshPlaces F j p ≡ tabulate (madePlace (symbolsUntil (base + j) (spot F p))) (delay F p)
+  unfolding freshPlaces
+  places-are p hp =
+      tabulate-cong _ _ (delay F p)
+      (λ i h. flush-cell F (phaseBack F j (delay F p - i)) p hp ∙ ap (λ (b : Bool). pick b placeholder filler) (held-until p i h))
+
+-- lists joined, each as another
+joined-cong : (f g : ℕ → List ℕ) (n : ℕ) → ((p : ℕ) → p < n → f p ≡ g p) → joined f n ≡ joined g n
+unfolding joined
+joined-cong f g zero h = refl
+joined-cong f g (suc n) h = λ i. joined-cong f g n (λ p l. h p (omega arith)) i ++ h n (omega arith) i
+
+-- the store that is made of s: filler in all places of the cells, and then their placeholders; kc are their subcarriers
+fresh-is : (F : Frame) (base : ℕ) → Turning F base → (j : ℕ) → F .depth ≤ F .phases → 0 < F .depth → (m from places : ℕ) (kc s t y : List ℕ)
+    → m ≡ F .depth → length kc ≡ cells F → from ≡ base + j → ((p : ℕ) → p < length kc → getD kc p 0 ≡ spot F p)
+    → places ≡ placesBefore (emitterDelay m) (length kc) → emitterPlaces F ≤ length s
+    → t ≡ sets s 0 (replicate places filler) → y ≡ withPlaceholders m from kc t (length kc) → y ≡ freshStore F j s
+unfolding freshStore madePlaces made
+fresh-is F base turning j fits pos m from places kc s t y em en ef spots ep long et ey =
+    let n : ℕ = length kc in
+    let filled : List ℕ = replicate places filler in
+    let need : placesBefore (emitterDelay m) n ≡ emitterPlaces F = emitter-places-are F m n em en in
+    let size : length t ≡ length s = ap length et ∙ length-sets s 0 filled in
+    let full : length filled ≡ places = length-replicate places filler in
+    let same : joined (madePlaces m from kc) n ≡ joined (freshPlaces F j) (cells F) =
+    joined-cong _ (freshPlaces F j) n (λ p h. rw (em, ef, spots p h) (sym (places-are F base turning j fits pos p (omega (arith, h, en))))) ∙ ap (joined (freshPlaces F j)) en in
+    let long′ : placesBefore (emitterDelay m) n ≤ length t = omega arith in
+    let fill : (k : ℕ) → k < placesBefore (emitterDelay m) n → getD t k 0 ≡ filler =
+    λ k h. ap (λ (l : List ℕ). getD l k 0) et ∙ getD-sets-0 s filled 0 k (omega arith) (omega arith) ∙ getD-replicate places k filler 0 (omega arith) in
+    ey ∙ all-put m from n kc t long′ fill n (omega arith)
+    ∙ ap (λ (l : List ℕ). sets l 0 (joined (madePlaces m from kc) n)) et
+    ∙ sets-over s filled (joined (madePlaces m from kc) n) (full ∙ ep ∙ sym (length-made m from n kc t long′ fill n)) (omega (arith, length-made m from n kc t long′ fill n))
+    ∙ ap (sets s 0) same
+
+-- the same under a plan whose cells have the subcarriers kc
+module _ (d : Device) (s kc : List ℕ) (w : Spotted d s kc) (m : ℕ) (em : m ≡ planOf s .depth) where
+  pub places-of : placesBefore (emitterDelay m) (length kc) ≡ emitterPlaces (frameOf d (planOf s))
+  unfolding frameOf
+  places-of = emitter-places-are (frameOf d (planOf s)) m (length kc) em (w .all)
+
+  pub fresh-of : (j l places : ℕ) → l ≡ planOf s .plc → places ≡ placesBefore (emitterDelay m) (length kc) → (store t y : List ℕ)
+      → emitterPlaces (frameOf d (planOf s)) ≤ length store → t ≡ sets store 0 (replicate places filler) → y ≡ withPlaceholders m (l + d .plcWidth + j) kc t (length kc)
+      → y ≡ freshStore (frameOf d (planOf s)) j store
+  unfolding frameOf
+  fresh-of j l places el ep store t y long et ey =
+      fresh-is (frameOf d (planOf s)) _ (turning-of d (planOf s)) j (w .shallow) (w .deep) m (l + d .plcWidth + j) places kc store t y em (w .all)
+      (ap (λ (x : ℕ). x + d .plcWidth + j) el) (w .spots) ep long et ey

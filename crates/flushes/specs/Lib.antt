@@ -1,1 +1,2 @@
 pub mod Spotted
+pub mod Placeholders

@@ -1,4 +1,4 @@
--- What the rows of a fresh store are made from. Assumes nothing.
+-- What the places of a fresh store are made from. Assumes nothing.
 use mathlib.Core.Path.{_≡_}
 use mathlib.Core.List.{List}
 use Prim.Native.Nat.{ℕ, _≤_, _<_}

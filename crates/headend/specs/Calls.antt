@@ -73,15 +73,15 @@ module _ (d : Device) (s : List ℕ) where
   unfoldable pub listenCall : ℕ → List ℕ → List ℕ → StoreSaid
   listenCall j store a = pick (short a) (saysStore 21 store a) (listenTold (listenBytes d s j store) a)
 
-  -- the phase and row, the lent store, the data and the lent symbol
-  unfoldable pub emitCall : ℕ → ℕ → List ℕ → List ℕ → List ℕ → List ℕ → StepSaid
-  emitCall j r store ds room a = pick (short a) (saysStep 21 store room a) (sendTold (emitBytes d s (record { phase = j; row = r }) store ds room) a)
+  -- the phase, the lent store, the data and the lent symbol
+  unfoldable pub emitCall : ℕ → List ℕ → List ℕ → List ℕ → List ℕ → StepSaid
+  emitCall j store ds room a = pick (short a) (saysStep 21 store room a) (sendTold (emitBytes d s (record { phase = j }) store ds room) a)
 
   -- the same without data
-  unfoldable pub flushCall : ℕ → ℕ → List ℕ → List ℕ → List ℕ → StepSaid
-  flushCall j r store room a = pick (short a) (saysStep 21 store room a) (sendTold (flushBytes d s (record { phase = j; row = r }) store room) a)
+  unfoldable pub flushCall : ℕ → List ℕ → List ℕ → List ℕ → StepSaid
+  flushCall j store room a = pick (short a) (saysStep 21 store room a) (sendTold (flushBytes d s (record { phase = j }) store room) a)
 
-  -- the phase, row and heard, the lent store, the arriving symbol and the lent data buffer
-  unfoldable pub receiveCall : ℕ → ℕ → ℕ → List ℕ → List ℕ → List ℕ → List ℕ → StepSaid
-  receiveCall j r h store y b a =
-      pick (short a) (saysStep 21 store b a) (receiveTold (receiveBytes d s (record { phase = j; row = r; heard = h }) store y b) a)
+  -- the phase and heard, the lent store, the arriving symbol and the lent data buffer
+  unfoldable pub receiveCall : ℕ → ℕ → List ℕ → List ℕ → List ℕ → List ℕ → StepSaid
+  receiveCall j h store y b a =
+      pick (short a) (saysStep 21 store b a) (receiveTold (receiveBytes d s (record { phase = j; heard = h }) store y b) a)

@@ -7,7 +7,7 @@ use rules::EmitterState;
 use rules::ReceiverState;
 
 // The bytes of an answer.
-const ANSWER: usize = 20;
+const ANSWER: usize = 16;
 
 // Judges a plan.
 #[no_mangle]
@@ -88,18 +88,17 @@ pub extern "C" fn headend_fresh_receiver(
 pub extern "C" fn headend_emit(
     plan: &[u8],
     phase: u32,
-    row: u32,
     store: &mut [u8],
     input: &[u8],
     symbol: &mut [u8],
     answer: &mut [u8],
 ) -> u32
-    ensures { λ r. ⌜ saysStep r (now (store .exit)) (now (symbol .exit)) (now (answer .exit)) ≡ emitCall khz50 (now (plan .entry)) phase row (now (store .entry)) (now (input .entry)) (now (symbol .entry)) (now (answer .entry)) ⌝ }
+    ensures { λ r. ⌜ saysStep r (now (store .exit)) (now (symbol .exit)) (now (answer .exit)) ≡ emitCall khz50 (now (plan .entry)) phase (now (store .entry)) (now (input .entry)) (now (symbol .entry)) (now (answer .entry)) ⌝ }
 {
     if answer.len() < ANSWER {
         return 21;
     }
-    let state = EmitterState { phase, row };
+    let state = EmitterState { phase };
     answers::tell(
         answer,
         answers::told_send(byteemitter::emit(plan, state, store, input, symbol)),
@@ -111,17 +110,16 @@ pub extern "C" fn headend_emit(
 pub extern "C" fn headend_flush(
     plan: &[u8],
     phase: u32,
-    row: u32,
     store: &mut [u8],
     symbol: &mut [u8],
     answer: &mut [u8],
 ) -> u32
-    ensures { λ r. ⌜ saysStep r (now (store .exit)) (now (symbol .exit)) (now (answer .exit)) ≡ flushCall khz50 (now (plan .entry)) phase row (now (store .entry)) (now (symbol .entry)) (now (answer .entry)) ⌝ }
+    ensures { λ r. ⌜ saysStep r (now (store .exit)) (now (symbol .exit)) (now (answer .exit)) ≡ flushCall khz50 (now (plan .entry)) phase (now (store .entry)) (now (symbol .entry)) (now (answer .entry)) ⌝ }
 {
     if answer.len() < ANSWER {
         return 21;
     }
-    let state = EmitterState { phase, row };
+    let state = EmitterState { phase };
     answers::tell(
         answer,
         answers::told_send(byteemitter::flush(plan, state, store, symbol)),
@@ -133,19 +131,18 @@ pub extern "C" fn headend_flush(
 pub extern "C" fn headend_receive(
     plan: &[u8],
     phase: u32,
-    row: u32,
     heard: u32,
     store: &mut [u8],
     symbol: &[u8],
     buffer: &mut [u8],
     answer: &mut [u8],
 ) -> u32
-    ensures { λ r. ⌜ saysStep r (now (store .exit)) (now (buffer .exit)) (now (answer .exit)) ≡ receiveCall khz50 (now (plan .entry)) phase row heard (now (store .entry)) (now (symbol .entry)) (now (buffer .entry)) (now (answer .entry)) ⌝ }
+    ensures { λ r. ⌜ saysStep r (now (store .exit)) (now (buffer .exit)) (now (answer .exit)) ≡ receiveCall khz50 (now (plan .entry)) phase heard (now (store .entry)) (now (symbol .entry)) (now (buffer .entry)) (now (answer .entry)) ⌝ }
 {
     if answer.len() < ANSWER {
         return 21;
     }
-    let state = ReceiverState { phase, row, heard };
+    let state = ReceiverState { phase, heard };
     answers::tell(
         answer,
         answers::told_receive(bytereceiver::receive(plan, state, store, symbol, buffer)),

@@ -3,7 +3,7 @@ use rules::EmitterState;
 use rules::ReceiverState;
 
 // The cells of a store, and of a symbol.
-pub(crate) const STORE: usize = 120000;
+pub(crate) const STORE: usize = 60000;
 
 pub(crate) const SYMBOL: usize = 4096;
 
@@ -16,11 +16,12 @@ pub(crate) const SENT: u32 = 300;
 // The kind of the right sends and receives; those of the wrong ones are 0 to 7.
 pub(crate) const RIGHT: u32 = 8;
 
-// The link: M, and M times N_I; the starting phase, the number of the next symbol, both states, and whether all was right so far; then the
+// The link: M, and how many cells the store of each end needs; the starting phase, the number of the next symbol, both states, and whether all was right so far; then the
 // numbers of the line.
 pub(crate) struct Link {
     pub depth: u32,
-    pub need: usize,
+    pub emitter_need: usize,
+    pub receiver_need: usize,
     pub start: u32,
     pub t: u32,
     pub emitter: EmitterState,

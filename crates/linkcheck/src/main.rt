@@ -117,15 +117,12 @@ fn count_all(plan: &[u8], counts: &mut [u16; PHASES]) {
 fn new_link(plan: &[u8]) -> Link {
     Link {
         depth: samples::depth_of(plan),
-        need: trials::need_of(plan),
+        emitter_need: trials::emitter_need(plan),
+        receiver_need: trials::receiver_need(plan),
         start: 0,
         t: 0,
-        emitter: EmitterState { phase: 0, row: 0 },
-        receiver: ReceiverState {
-            phase: 0,
-            row: 0,
-            heard: 0,
-        },
+        emitter: EmitterState { phase: 0 },
+        receiver: ReceiverState { phase: 0, heard: 0 },
         right: true,
         phases: 0,
         symbols: 0,

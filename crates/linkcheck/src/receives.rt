@@ -46,33 +46,34 @@ pub(crate) fn due_of(link: Link, counts: &[u16; PHASES]) -> Due {
     }
 }
 
-// What a receive of a kind is given. Wrong: in row M, with heard M, at phase 128, of a symbol of 4,095 cells, with a store that is a cell too
-// short, with a data buffer that is a cell too short, and with a spoiled symbol.
+// What a receive of a kind is given. Wrong: 128 phases on, with heard M, at phase 128, of a symbol of 4,095 cells, with a store that is a cell
+// too short, with a data buffer that is a cell too short, and with a spoiled symbol.
 fn receiving(link: Link, kind: u32, count: usize) -> Receiving {
     let state = link.receiver;
     let mut given = Receiving {
         phase: state.phase,
-        row: state.row,
         heard: state.heard,
         store: STORE,
         symbol: SYMBOL,
         buffer: SYMBOL,
     };
     match kind {
-        0 => given.row = link.depth,
+        0 => given.phase = std::num::wrapping_add_u32(state.phase, 128),
         1 => given.heard = link.depth,
         2 => given.phase = 128,
         3 => given.symbol = 4095,
-        4 => given.store = less(link.need),
+        4 => given.store = less(link.receiver_need),
         5 => given.buffer = less(count),
         _ => {}
     }
     given
 }
 
-// Whether a kind is tried: a data buffer that is too short not while warming, a spoiled placeholder only where there is one, at the place.
-fn tried(kind: u32, code: u32, place: usize) -> bool {
+// Whether a kind is tried: a store that is too short only where one is needed, a data buffer that is not while warming, a spoiled placeholder
+// only where there is one, at the place.
+fn tried(link: Link, kind: u32, code: u32, place: usize) -> bool {
     match kind {
+        4 => link.receiver_need != 0,
         5 => code == DATA,
         6 => place < SYMBOL,
         _ => true,
@@ -166,7 +167,7 @@ pub(crate) fn receive(
     symbol: &mut [u16; SYMBOL],
 ) -> Link {
     let place = samples::inputs::spoiled_at(kind, symbol);
-    if !tried(kind, due.code, place) {
+    if !tried(link, kind, due.code, place) {
         return link;
     }
     let given = receiving(link, kind, due.count);

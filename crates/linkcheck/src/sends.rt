@@ -11,14 +11,13 @@ use crate::link::refusal;
 use rules::SendAnswer;
 use trials::Sending;
 
-// What a send of a kind is given; nd is N_D. Wrong: with a cell too few, with a cell too many, with 16384 in the middle, in row M, a flush at
-// phase 128, a flush with a symbol of 4,095 cells, with a store that is a cell too short, with the mark of filler as data.
+// What a send of a kind is given; nd is N_D. Wrong: with a cell too few, with a cell too many, with 16384 in the middle, 128 phases on, a flush
+// at phase 128, a flush with a symbol of 4,095 cells, with a store that is a cell too short, with the mark of filler as data.
 fn sending(link: Link, kind: u32, nd: usize) -> Sending {
     let state = link.emitter;
     let mut given = Sending {
         flush: false,
         phase: state.phase,
-        row: state.row,
         count: nd,
         store: STORE,
         symbol: SYMBOL,
@@ -26,7 +25,7 @@ fn sending(link: Link, kind: u32, nd: usize) -> Sending {
     match kind {
         0 => given.count = less(nd),
         1 => given.count = std::num::wrapping_add_usize(nd, 1),
-        3 => given.row = link.depth,
+        3 => given.phase = std::num::wrapping_add_u32(state.phase, 128),
         4 => {
             given.flush = true;
             given.phase = 128;
@@ -35,7 +34,7 @@ fn sending(link: Link, kind: u32, nd: usize) -> Sending {
             given.flush = true;
             given.symbol = 4095;
         }
-        6 => given.store = less(link.need),
+        6 => given.store = less(link.emitter_need),
         RIGHT => given.flush = samples::inputs::is_flush(link.t),
         _ => {}
     }
@@ -89,7 +88,7 @@ fn told(link: Link, kind: u32, answer: SendAnswer) -> Link {
     answered(next, code_of(kind), got)
 }
 
-// The link after a send of a kind; nd is N_D.
+// The link after a send of a kind; nd is N_D. A store that is too short is tried only where one is needed.
 pub(crate) fn send(
     link: Link,
     kind: u32,
@@ -98,6 +97,9 @@ pub(crate) fn send(
     store: &mut [u16; STORE],
     symbol: &mut [u16; SYMBOL],
 ) -> Link {
+    if kind == 6 && link.emitter_need == 0 {
+        return link;
+    }
     let given = sending(link, kind, nd);
     let seed = samples::inputs::seed(link.start, link.t);
     let mut cells = [0u16; SYMBOL];

@@ -1,8 +1,8 @@
 // Sends symbols and receives them with `fresh::fresh_receiver` and `receiver::receive`, and prints what tests/receives.py works out with the
 // second model: a line for each case, how many receives answered warming, data and a refusal, and the checksum of every answer, of the
 // data buffer after each receive and of the store at the end. A fresh start that is refused prints `refused`, number, place and the checksum.
-// Standard input holds, for each case, four numbers of four bytes each, high byte first: the plan's length, the starting phase, M times N_I
-// and the number of acts; then the plan, and the acts. tests/receives.py says what the acts are and makes stdin and stdout.
+// Standard input holds, for each case, four numbers of four bytes each, high byte first: the plan's length, the starting phase, how
+// many cells the store needs and the number of acts; then the plan, and the acts. tests/receives.py says what the acts are and makes stdin and stdout.
 use rules::EmitterState;
 use rules::ListenAnswer;
 use rules::ReceiveAnswer;
@@ -13,7 +13,7 @@ use trials::Receiving;
 use trials::Sending;
 
 // The cells of a store, of a symbol, and of the line.
-const STORE: usize = 120000;
+const STORE: usize = 60000;
 
 const SYMBOL: usize = 4096;
 
@@ -41,7 +41,6 @@ struct Act {
     read: bool,
     act: u8,
     phase: u32,
-    row: u32,
     heard: u32,
     store: u32,
     symbol: u32,
@@ -63,7 +62,6 @@ fn send(run: Run, act: u8, plan: &[u8], store: &mut [u16; STORE], line: &mut [u1
     let given = Sending {
         flush: act == 1,
         phase: state.phase,
-        row: state.row,
         count,
         store: STORE,
         symbol: SYMBOL,
@@ -77,21 +75,20 @@ fn send(run: Run, act: u8, plan: &[u8], store: &mut [u16; STORE], line: &mut [u1
     next
 }
 
-// Act 3, with its eight numbers from standard input.
+// Act 3, with its seven numbers from standard input.
 fn given_act() -> Act {
-    let mut bytes = [0u8; 32];
+    let mut bytes = [0u8; 28];
     let read = console::fill(b"receivecases", &mut bytes);
     Act {
         read,
         act: 3,
         phase: console::number_at(&bytes, 0),
-        row: console::number_at(&bytes, 1),
-        heard: console::number_at(&bytes, 2),
-        store: console::number_at(&bytes, 3),
-        symbol: console::number_at(&bytes, 4),
-        buffer: console::number_at(&bytes, 5),
-        first: console::number_at(&bytes, 6),
-        second: console::number_at(&bytes, 7),
+        heard: console::number_at(&bytes, 1),
+        store: console::number_at(&bytes, 2),
+        symbol: console::number_at(&bytes, 3),
+        buffer: console::number_at(&bytes, 4),
+        first: console::number_at(&bytes, 5),
+        second: console::number_at(&bytes, 6),
     }
 }
 
@@ -107,9 +104,8 @@ fn next_act() -> Act {
         read,
         act,
         phase: 0,
-        row: 0,
         heard: 0,
-        store: 120000,
+        store: 60000,
         symbol: 4096,
         buffer: 4096,
         first: 4294967295,
@@ -121,7 +117,6 @@ fn next_act() -> Act {
 fn receiving(state: ReceiverState, given: Act) -> Receiving {
     Receiving {
         phase: std::num::wrapping_add_u32(state.phase, given.phase),
-        row: std::num::wrapping_add_u32(state.row, given.row),
         heard: std::num::wrapping_add_u32(state.heard, given.heard),
         store: given.store as usize,
         symbol: given.symbol as usize,
@@ -206,14 +201,12 @@ fn acts(
     run
 }
 
-// The checksum of two fresh receivers of an accepted plan: in one cell too few, which leaves the first cells as they were, and in just
-// enough.
+// The checksum of two fresh receivers: in one cell too few, none where none is needed, and in just enough. The one leaves the first cells
+// of a store that needs some as they were.
 fn mixed_tight(plan: &[u8], phase: u32, need: u32, store: &mut [u16; STORE]) -> u32 {
-    if need == 0 {
-        return 0;
-    }
     let size = need as usize;
-    let short = sums::mixed_listen(0, trials::fresh_receiver(plan, phase, size - 1, store));
+    let few = if size == 0 { 0 } else { size - 1 };
+    let short = sums::mixed_listen(0, trials::fresh_receiver(plan, phase, few, store));
     let seen = sums::mixed_cells(short, store, 16);
     sums::mixed_listen(seen, trials::fresh_receiver(plan, phase, size, store))
 }
@@ -222,7 +215,7 @@ fn mixed_tight(plan: &[u8], phase: u32, need: u32, store: &mut [u16; STORE]) -> 
 fn fresh_emitter(plan: &[u8], phase: u32, store: &mut [u16; STORE]) -> EmitterState {
     match trials::fresh_emitter(plan, phase, STORE, store) {
         StartAnswer::Started(state) => state,
-        StartAnswer::Refused(_, _) => EmitterState { phase, row: 0 },
+        StartAnswer::Refused(_, _) => EmitterState { phase },
     }
 }
 

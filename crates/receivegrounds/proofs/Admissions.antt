@@ -1,7 +1,7 @@
 -- What a receive step is answered, return by return, and what the answer tells of the step. Assumes nothing.
 use mathlib.Core.Path.{_≡_, refl, sym, ap, _∙_}
 use mathlib.Core.List.{List}
-use Prim.Native.Nat.{ℕ, _*_, _≤_}
+use Prim.Native.Nat.{ℕ, _≤_}
 use native.Mathlib.Omega.{arith}
 use Rattle.counting.proofs.Laws.{count-le}
 use Rattle.rules.specs.declared.Device.{Device}
@@ -12,8 +12,8 @@ use Rattle.rules.specs.declared.ReceiveAnswer.the-variants as an-answer
 use Rattle.rules.specs.Device.{phases}
 use Rattle.rules.specs.Plan.{planOf}
 use Rattle.rules.specs.Grounds.{_else_, grounds1to15}
-use Rattle.rules.specs.Frame.{Frame, frameOf, cells, isData, dataCount}
-use Rattle.rules.specs.Receive.{Receiver, Arrival, Receiving, hears, turnedAway, outPhase, outCount, receiveGrounds, received, frameReceive, hearStep}
+use Rattle.rules.specs.Frame.{Frame, frameOf, cells}
+use Rattle.rules.specs.Receive.{Receiver, Arrival, Receiving, hears, turnedAway, outCount, receiveGrounds, received, frameReceive, hearStep}
 use Rattle.receivegrounds.specs.declared.Admission.the-variants.{Admitted, Refused}
 use Rattle.receivegrounds.specs.Stages.{earlyGrounds, lateGrounds, answered, admission}
 use Rattle.receivegrounds.specs.InOrder.{ReceiveInOrder}
@@ -90,7 +90,7 @@ module _ (d : Device) (s : List ℕ) (v : Receiver) (a : Arrival) where
 
     -- what the step relies on
     pub admitted : frame .depth ≤ phases → ReceiveInOrder frame v a m n nd
-    unfolding frameOf cells dataCount
+    unfolding frameOf cells
     admitted deep =
         let fine : Fine ≡ (grounds1to15 d s else receiveGrounds frame v a) = sym (told .0) in
         let staged : Fine ≡ (earlyGrounds frame v (a .symbol) else lateGrounds frame (v .state) a) = fine-last (grounds1to15 d s) _ fine ∙ sym (in-stages frame v a) in
@@ -98,18 +98,15 @@ module _ (d : Device) (s : List ℕ) (v : Receiver) (a : Arrival) where
         let lent = early-lent frame v (a .symbol) early in
         let em = told .1 in
         let en = told .2 in
-        let size : m * n ≡ frame .depth * cells frame = λ i. em i * en i in
         record {
           deep = em;
           shallow = omega (arith, em, deep);
           all = en;
           few = omega (arith, en, count-le (frame .ranked) (frame .width));
           phase-in = lent .phase-in;
-          row-in = omega (arith, lent .row-in, em);
           heard-in = omega (arith, early-heard frame v (a .symbol) early, em);
-          rows-fit = omega (arith, size, lent .rows-fit);
+          places-fit = lent .places-fit;
           whole = lent .whole;
           number = told .3;
-          data-few = omega (arith, told .3, en, count-le (isData frame (outPhase frame (v .state .phase))) (cells frame));
           room = λ h. omega (arith, told .3, late-room frame (v .state) a (fine-last (earlyGrounds frame v (a .symbol)) _ staged) (omega (arith, h, em)));
         }

@@ -19,7 +19,8 @@ use Rattle.rules.specs.declared.ReceiverState.{ReceiverState}
 use Rattle.rules.specs.Device.{phases}
 use Rattle.rules.specs.Grounds.{_else_, ground?}
 use Rattle.rules.specs.Frame.{Frame, cells, dataCount}
-use Rattle.rules.specs.Steps.{stateGround16, shortStore, ground17}
+use Rattle.rules.specs.Store.{receiverPlaces}
+use Rattle.rules.specs.Steps.{ground16, shortStore, ground17}
 use Rattle.rules.specs.Receive.{Receiver, Arrival, warming, outPhase, outCount, receiverGround16, shortBuffer, receiverGround17, wrongCell, ground20, receiveGrounds}
 use Rattle.verdicts.proofs.Verdicts.{else-assoc}
 use Rattle.steps.specs.Ready.{readyAnswer, Made, MadeIf}
@@ -73,7 +74,7 @@ prepared-front F j kc flag more rest w = record {
 module _ (F : Frame) (v : Receiver) (y : List ℕ) where
   -- the early grounds as a function of what 16 finds, and of its test
   with16 : Finding → Finding
-  with16 f = f else ground17 F (v .store) y
+  with16 f = f else ground17 F (receiverPlaces F) (v .store) y
 
   tested : Bool → Finding
   tested t = with16 (ground? 16 (when t 0))
@@ -82,25 +83,25 @@ module _ (F : Frame) (v : Receiver) (y : List ℕ) where
   unfolding earlyGrounds receiverGround16 tested with16
   bad-heard h =
       sym
-      (ap (λ (t : Bool). tested (leb (F .phases) (v .state .phase) || leb (F .depth) (v .state .row) || t)) (le-leb (F .depth) (v .state .heard) h)
-      ∙ ap tested (or-true (leb (F .phases) (v .state .phase) || leb (F .depth) (v .state .row))))
+      (ap (λ (t : Bool). tested (leb (F .phases) (v .state .phase) || t)) (le-leb (F .depth) (v .state .heard) h)
+      ∙ ap tested (or-true (leb (F .phases) (v .state .phase))))
 
-  good-heard : v .state .heard < F .depth → (stateGround16 F (v .state .phase) (v .state .row) else ground17 F (v .store) y) ≡ earlyGrounds F v y
-  unfolding earlyGrounds receiverGround16 stateGround16 tested with16
+  good-heard : v .state .heard < F .depth → (ground16 F (v .state .phase) else ground17 F (receiverPlaces F) (v .store) y) ≡ earlyGrounds F v y
+  unfolding earlyGrounds receiverGround16 ground16 tested with16
   good-heard h =
       sym
-      (ap (λ (t : Bool). tested (leb (F .phases) (v .state .phase) || leb (F .depth) (v .state .row) || t)) (lt-leb (F .depth) (v .state .heard) h)
-      ∙ ap tested (or-false (leb (F .phases) (v .state .phase) || leb (F .depth) (v .state .row))))
+      (ap (λ (t : Bool). tested (leb (F .phases) (v .state .phase) || t)) (lt-leb (F .depth) (v .state .heard) h)
+      ∙ ap tested (or-false (leb (F .phases) (v .state .phase))))
 
   -- the answers: refused for heard, or as every step
   pub heard-out : F .depth ≤ v .state .heard → Refused 16 0 ≡ earlyAnswer F v y
   unfolding earlyAnswer
   heard-out h = ap (told (outCount F (v .state))) (bad-heard h)
 
-  pub heard-in : v .state .heard < F .depth → (j : ℕ) → j ≡ outPhase F (v .state .phase) → readyAnswer F (v .state .phase) (v .state .row) (v .store) y j ≡ earlyAnswer F v y
+  pub heard-in : v .state .heard < F .depth → (need j : ℕ) → need ≡ receiverPlaces F → j ≡ outPhase F (v .state .phase) → readyAnswer F (v .state .phase) need (v .store) y j ≡ earlyAnswer F v y
   unfolding earlyAnswer readyAnswer
-  heard-in h j e =
-      ap (λ (k : ℕ). told (dataCount F k) (stateGround16 F (v .state .phase) (v .state .row) else ground17 F (v .store) y)) e
+  heard-in h need j en ej =
+      (λ i. told (dataCount F (ej i)) (ground16 F (v .state .phase) else ground17 F (en i) (v .store) y))
       ∙ ap (told (outCount F (v .state))) (good-heard h)
 
   -- what an answer tells
@@ -117,8 +118,8 @@ module _ (F : Frame) (v : Receiver) (y : List ℕ) where
     pub early-heard : v .state .heard < F .depth
     early-heard = ⊎-elim (λ l. l .0) (λ l. absurd (no-ground 16 0 _ (bad-heard (l .0)) e)) (decide (v .state .heard) (F .depth))
 
-    pub early-lent : Lent F (v .state .phase) (v .state .row) (v .store) y
-    early-lent = lent F (v .state .phase) (v .state .row) (v .store) y (e ∙ sym (good-heard early-heard))
+    pub early-lent : Lent F (v .state .phase) (receiverPlaces F) (v .store) y
+    early-lent = lent F (v .state .phase) (receiverPlaces F) (v .store) y (e ∙ sym (good-heard early-heard))
 
 -- ---- the late grounds
 
@@ -148,7 +149,7 @@ module _ (F : Frame) (v : Receiver) (a : Arrival) where
   pub in-stages : (earlyGrounds F v (a .symbol) else lateGrounds F (v .state) a) ≡ receiveGrounds F v a
   unfolding earlyGrounds lateGrounds receiveGrounds ground17 receiverGround17
   in-stages =
-      let short = shortStore F (v .store) || not (eqb (length (a .symbol)) (F .width)) in
+      let short = shortStore (receiverPlaces F) (v .store) || not (eqb (length (a .symbol)) (F .width)) in
       let buffer = shortBuffer F (v .state) (a .buffer) in
       let last = ground20 F (v .state .phase) (a .symbol) in
       else-assoc (receiverGround16 F (v .state)) (ground? 17 (when short 0)) (ground? 17 (when buffer 0) else last)

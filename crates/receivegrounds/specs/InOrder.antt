@@ -1,10 +1,11 @@
 -- What a receive step relies on once no ground refuses it. Assumes nothing.
 use mathlib.Core.Path.{_≡_}
 use mathlib.Core.List.{List}
-use Prim.Native.Nat.{ℕ, _-_, _*_, _≤_, _<_}
+use Prim.Native.Nat.{ℕ, _-_, _≤_, _<_}
 use lib.ListN.{length, getD}
 use Rattle.rules.specs.Device.{phases}
 use Rattle.rules.specs.Frame.{Frame, cells, spot}
+use Rattle.rules.specs.Store.{receiverPlaces}
 use Rattle.rules.specs.Receive.{Receiver, Arrival, outCount}
 use Rattle.fill.specs.Flags.{Flagged}
 
@@ -15,12 +16,10 @@ pub record ReceiveInOrder (F : Frame) (v : Receiver) (a : Arrival) (m n nd : ℕ
   pub all : n ≡ cells F
   pub few : n ≤ F .width
   pub phase-in : v .state .phase < phases
-  pub row-in : v .state .row < m
   pub heard-in : v .state .heard < m
-  pub rows-fit : m * n ≤ length (v .store)
+  pub places-fit : receiverPlaces F ≤ length (v .store)
   pub whole : length (a .symbol) ≡ F .width
   pub number : nd ≡ outCount F (v .state)
-  pub data-few : nd ≤ n
   pub room : m - 1 ≤ v .state .heard → nd ≤ length (a .buffer)
 
 -- the list holds the subcarriers of the cells

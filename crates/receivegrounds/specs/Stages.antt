@@ -11,6 +11,7 @@ use Rattle.rules.specs.declared.ReceiverState.{ReceiverState}
 use Rattle.rules.specs.Plan.{planOf}
 use Rattle.rules.specs.Grounds.{_else_, ground?, grounds1to15}
 use Rattle.rules.specs.Frame.{Frame, frameOf, cells}
+use Rattle.rules.specs.Store.{receiverPlaces}
 use Rattle.rules.specs.Steps.{ground17}
 use Rattle.rules.specs.Receive.{Receiver, Arrival, outCount, receiverGround16, shortBuffer, ground20, receiveGrounds}
 use Rattle.receivegrounds.specs.declared.Admission.{Admission}
@@ -19,7 +20,7 @@ use Rattle.receivegrounds.specs.declared.Admission.the-variants.{Admitte
 module _ (F : Frame) where
   -- the early ones: 16, and 17 of store and symbol
   unfoldable pub earlyGrounds : Receiver → List ℕ → Finding
-  earlyGrounds v y = receiverGround16 F (v .state) else ground17 F (v .store) y
+  earlyGrounds v y = receiverGround16 F (v .state) else ground17 F (receiverPlaces F) (v .store) y
 
   -- the late ones: 17 of the data buffer, and 20
   unfoldable pub lateGrounds : ReceiverState → Arrival → Finding

@@ -50,6 +50,7 @@ fn ready(
         return CountAnswer::Refused(16, 0);
     }
     let back = receiving::out_phase(state.phase, m);
+    let need = places::receiver_places(m, kc.len());
     let mut car = [0u16; 4096];
     steps::ready(
         d,
@@ -57,7 +58,7 @@ fn ready(
         marks,
         m,
         state.phase,
-        state.row,
+        need,
         places,
         width,
         back,
@@ -81,7 +82,7 @@ fn last_grounds(
     room: usize,
     symbol: &[u16],
 ) -> Admission
-    requires { ⌜ Ready d (now plan) n (now marks) × (m ≡ planOf (now plan) .depth) × (nd ≡ outCount (frameOf d (planOf (now plan))) state) × (state .phase < phases) × (state .row < m) × (width ≡ d .subcarriers) × (width ≤ length (now symbol)) ⌝ }
+    requires { ⌜ Ready d (now plan) n (now marks) × (m ≡ planOf (now plan) .depth) × (nd ≡ outCount (frameOf d (planOf (now plan))) state) × (state .phase < phases) × (width ≡ d .subcarriers) × (width ≤ length (now symbol)) ⌝ }
     ensures { λ r. ⌜ ((b : List ℕ) → length b ≡ room → r ≡ answered (frameOf d (planOf (now (plan .entry)))) state (lateGrounds (frameOf d (planOf (now (plan .entry)))) state (record { symbol = take width (now (symbol .entry)); buffer = b }))) ⌝ }
 {
     if receiving::lacks(state.heard, m, nd as usize, room) {

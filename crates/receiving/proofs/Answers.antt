@@ -9,9 +9,9 @@ use Rattle.counting.specs.Search.{pick}
 use Rattle.counting.proofs.Lists.{length-tabulate}
 use Rattle.rules.specs.declared.ReceiverState.{ReceiverState}
 use Rattle.rules.specs.declared.ReceiveAnswer.the-variants as an-answer
-use Rattle.rules.specs.Frame.{Frame, cells}
-use Rattle.rules.specs.Store.{nextRow, delayed}
-use Rattle.rules.specs.Receive.{Receiver, Arrival, hears, warming, outPhase, outCount, heardState, heardStore, rowsBack, handed, received}
+use Rattle.rules.specs.Frame.{Frame, cells, lineCells}
+use Rattle.rules.specs.Places.{receiverDelay, oldest, moved}
+use Rattle.rules.specs.Receive.{Receiver, Arrival, hears, warming, outPhase, outCount, heardState, heardStore, handed, received}
 use Rattle.fill.specs.Flags.{Flagged, takenData}
 use Rattle.fill.proofs.Inputs.{taken}
 
@@ -28,20 +28,26 @@ module _ (F : Frame) (v : ReceiverState) (m : ℕ) (em : m ≡ F .depth) where
   unfolding warming
   warming-at = ap (λ (k : ℕ). ltb (v .heard) (k - 1)) em
 
-  pub state-at : (n : ℕ) → n ≡ F .phases → _≡_ {A = ReceiverState} (record { phase = (v .phase + 1) % n; row = nextRow m (v .row); heard = pick (ltb (v .heard) (m - 1)) (v .heard + 1) (v .heard) }) (heardState F v)
+  pub state-at : (n : ℕ) → n ≡ F .phases → _≡_ {A = ReceiverState} (record { phase = (v .phase + 1) % n; heard = pick (ltb (v .heard) (m - 1)) (v .heard + 1) (v .heard) }) (heardState F v)
   unfolding heardState
-  state-at n en = λ i. record { phase = (v .phase + 1) % en i; row = nextRow (em i) (v .row); heard = pick (warming-at i) (v .heard + 1) (v .heard) }
+  state-at n en = λ i. record { phase = (v .phase + 1) % en i; heard = pick (warming-at i) (v .heard + 1) (v .heard) }
 
 -- ---- the answers
 
 module _ (F : Frame) (v : Receiver) (a : Arrival) where
-  -- the data taken from the gathered cells is what is handed out
-  pub gathered : (m n : ℕ) (st flag : List ℕ) → m ≡ F .depth → n ≡ cells F → st ≡ heardStore F v (a .symbol) → Flagged F (outPhase F (v .state .phase)) flag
-      → takenData flag (delayed m n (λ p. m - 1 - p % m) st (v .state .row)) ≡ handed F v (a .symbol)
-  unfolding handed delayed
-  gathered m n st flag em en es hf =
-      (λ i. takenData flag (delayed (em i) (en i) (λ p. em i - 1 - p % em i) (es i) (v .state .row)))
-      ∙ taken F (outPhase F (v .state .phase)) flag (delayed (F .depth) (cells F) (rowsBack F) (heardStore F v (a .symbol)) (v .state .row)) (length-tabulate _ (cells F)) hf
+  module _ (m n : ℕ) (em : m ≡ F .depth) (en : n ≡ cells F) where
+    -- the store that the arriving cells have moved
+    pub store-at : moved (receiverDelay m) n (v .store) (lineCells F (a .symbol)) ≡ heardStore F v (a .symbol)
+    unfolding heardStore
+    store-at = λ i. moved (receiverDelay (em i)) (en i) (v .store) (lineCells F (a .symbol))
+
+    -- the data taken from the oldest cells is what is handed out
+    pub gathered : (flag : List ℕ) → Flagged F (outPhase F (v .state .phase)) flag
+        → takenData flag (oldest (receiverDelay m) n (v .store) (lineCells F (a .symbol))) ≡ handed F v (a .symbol)
+    unfolding handed oldest
+    gathered flag hf =
+        (λ i. takenData flag (oldest (receiverDelay (em i)) (en i) (v .store) (lineCells F (a .symbol))))
+        ∙ taken F (outPhase F (v .state .phase)) flag (oldest (receiverDelay (F .depth)) (cells F) (v .store) (lineCells F (a .symbol))) (length-tabulate _ (cells F)) hf
 
   module _ (st : List ℕ) (r : ReceiverState) (es : st ≡ heardStore F v (a .symbol)) (er : r ≡ heardState F (v .state)) where
     -- while warming: no data is written

@@ -6,7 +6,6 @@ ghost use Prim.Native.Nat.{_+_, _-_, _%_, _≤_, _<_};
 ghost use lib.Dec.{ltb};
 ghost use Rattle.counting.specs.Search.{pick};
 ghost use Rattle.rules.specs.Device.{phases};
-ghost use Rattle.rules.specs.Store.{nextRow};
 use rules::ReceiverState;
 
 // Phases are 0 to 127.
@@ -50,14 +49,13 @@ fn next_heard(heard: u32, m: usize) -> u32
     heard + more
 }
 
-// The state of the next step: phase and row go up by one, heard while warming.
+// The state of the next step: the phase goes up by one, heard does while warming.
 pub fn next_state(m: usize, state: ReceiverState) -> ReceiverState
-    requires { ⌜ (state .phase < phases) × (state .row < m) × (state .heard < m) × (m ≤ 4096) ⌝ }
-    ensures { λ r. ⌜ r ≡ record { phase = (state .phase + 1) % phases; row = nextRow m (state .row); heard = pick (ltb (state .heard) (m - 1)) (state .heard + 1) (state .heard) } ⌝ }
+    requires { ⌜ (state .phase < phases) × (state .heard < m) × (m ≤ 4096) ⌝ }
+    ensures { λ r. ⌜ r ≡ record { phase = (state .phase + 1) % phases; heard = pick (ltb (state .heard) (m - 1)) (state .heard + 1) (state .heard) } ⌝ }
 {
     ReceiverState {
         phase: steps::next_phase(state.phase),
-        row: steps::next_row(state.row, m),
         heard: next_heard(state.heard, m),
     }
 }

@@ -4,7 +4,7 @@
 use Prim.Native.Nat.{ℕ, suc}
 use mathlib.Core.Path.{_≡_}
 use mathlib.Core.Bool.{true}
-use mathlib.Core.List.{List, [], _∷_, _++_, map}
+use mathlib.Core.List.{List, [], _∷_, map}
 use Rattle.counting.specs.Search.{those}
 use Rattle.rules.specs.declared.Device.{Device}
 use Rattle.rules.specs.declared.Verdict.the-variants.{Accepted, Refused}

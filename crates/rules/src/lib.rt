@@ -69,10 +69,9 @@ pub enum CountAnswer {
     Refused(u32, u32),
 }
 
-// The state of an emitter: phase and row of its next step.
+// The state of an emitter: the phase of its next step.
 pub struct EmitterState {
     pub phase: u32,
-    pub row: u32,
 }
 
 // The answer of a fresh start: the state, or refused with number and place.
@@ -87,10 +86,9 @@ pub enum SendAnswer {
     Refused(u32, u32, EmitterState),
 }
 
-// The state of a receiver: phase and row of its next step, and how many symbols it has heard, up to M - 1.
+// The state of a receiver: the phase of its next step, and how many symbols it has heard, up to M - 1.
 pub struct ReceiverState {
     pub phase: u32,
-    pub row: u32,
     pub heard: u32,
 }
 

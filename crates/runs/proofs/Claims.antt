@@ -50,8 +50,8 @@ module _ (d : Device) (p : Plan) (ok : Sound (frameOf d p)) (some : (j : ℕ) �
         marked = λ j e f steps. fitting d p ok j e (fresh-in F j e f) steps;
         started = λ j lent hj w h. starts-fine F j lent hj h;
         listens = λ j lent hj w h. listens-fine F j lent hj h;
-        emits = λ j e f steps ds room fit w h. emits F ok j e (fresh-in F j e f) steps ds room fit h;
-        flushes = λ j e f steps room w h. flushes F ok j e (fresh-in F j e f) steps room h;
+        emits = λ j e f steps ds room fit w h. emits F j e (fresh-in F j e f) steps ds room fit h;
+        flushes = λ j e f steps room w h. flushes F j e (fresh-in F j e f) steps room h;
       }
 
 -- a roomy device: every plan that no ground refuses

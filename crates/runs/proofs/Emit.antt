@@ -1,24 +1,24 @@
 -- The closed form of a run: the symbols sent from a fresh start are a function of the frame, the starting phase and the input alone. Assumes nothing.
-use Prim.Native.Nat.{ℕ, zero, suc, _+_, _-_, _*_, _%_, _/_, _≤_, _<_}
+use Prim.Native.Nat.{ℕ, zero, suc, _+_, _-_, _%_, _≤_, _<_}
 use mathlib.Core.Path.{_≡_, refl, sym, ap, _∙_}
 use mathlib.Core.Logic.{by-cases}
 use mathlib.Core.List.{List, [], _∷_, _++_, map}
 use native.Mathlib.Nat.{mod-lt, mod-eq-of-lt, mod-add-mod, add-mod-right, le-of-suc-le-suc, not-suc-le-zero, add-zero}
 use native.Mathlib.Decide.{decLt}
 use native.Mathlib.Omega.{arith}
-use lib.Arith.{digits-div, digits-mod, digits-lt}
 use lib.ListN.{length, getD, replicate, length-replicate, getD-replicate, length-map, List·getD-append}
 use lib.Seq.{length-sets, ext-getD, getD-append-add}
 use Rattle.counting.specs.Search.{tabulate}
 use Rattle.counting.proofs.Lists.{length-tabulate, getD-tabulate, getD-sets-0, getD-map-in}
 use Rattle.rules.specs.declared.Finding.the-variants.{Fine}
 use Rattle.rules.specs.Frame.{Frame, cells, delay, nextPhase, phaseBack, Given, flush, inputCells, lineSymbol}
-use Rattle.rules.specs.Store.{cellAt, freshCell, freshStore}
+use Rattle.rules.specs.Places.{joined, placesBefore}
+use Rattle.rules.specs.Store.{emitterPlaces, freshPlaces, freshStore}
 use Rattle.rules.specs.Steps.{Emitter, Send, givenGrounds, sendGrounds, nextState, sentStore, sentSymbol}
 use Rattle.frame.specs.Counted.{phaseOf}
-use Rattle.frame.proofs.Cells.{Sound, length-input}
-use Rattle.delay.specs.Ring.{ringSent}
-use Rattle.delay.proofs.Ring.{late, early, length-ringSent, length-cells}
+use Rattle.frame.proofs.Cells.{Sound}
+use Rattle.places.specs.Sent.{placesSent}
+use Rattle.places.proofs.Kept.{start-grow, joined-length, joined-at, early, late, length-placesSent, length-cells}
 use Rattle.runs.specs.Run.{acceptedSteps, input, sent}
 use Rattle.runs.proofs.Steps.{frameEntries, by-finding, fine-given, next, input-sent, input-ground, sent-symbol, sent-ground, FreshIn, freshEmitter}
 
@@ -52,24 +52,24 @@ inputs-at F j (g ∷ gs) hj (suc i) h =
     inputs-at F (nextPhase F j) gs (next-in F j hj) i (le-of-suc-le-suc h) ∙ ap (λ (x : ℕ). inputCells F x (getD gs i flush)) (phase-next F j i)
 
 -- the cells that accepted steps send, given gs
-ringOf : Frame → Emitter → List Given → List (List ℕ)
-ringOf F e gs = ringSent (F .depth) (cells F) (delay F) (e .state .row) (e .store) (inputs F (e .state .phase) gs)
+cellsSent : Frame → Emitter → List Given → List (List ℕ)
+cellsSent F e gs = placesSent (delay F) (cells F) (e .store) (inputs F (e .state .phase) gs)
 
-sent-ring : (F : Frame) (e : Emitter) (steps : List Send) → sent (frameEntries F) e steps ≡ map (lineSymbol F) (ringOf F e (input (frameEntries F) e steps))
-unfolding sent input acceptedSteps ringOf ringSent inputs sentSymbol sentStore next nextState
-sent-ring F e [] = refl
-sent-ring F e (a ∷ rest) =
+sent-cells : (F : Frame) (e : Emitter) (steps : List Send) → sent (frameEntries F) e steps ≡ map (lineSymbol F) (cellsSent F e (input (frameEntries F) e steps))
+unfolding sent input acceptedSteps cellsSent placesSent inputs sentSymbol sentStore next nextState
+sent-cells F e [] = refl
+sent-cells F e (a ∷ rest) =
     by-finding (sendGrounds F e a)
-    (λ h. rw (sent-symbol F e a rest h, input-sent F e a rest h, sent-ring F (next F e (a .given)) rest) refl)
-    (λ n place h. rw (sent-ground F e a rest n place h, input-ground F e a rest n place h) (sent-ring F e rest))
+    (λ h. rw (sent-symbol F e a rest h, input-sent F e a rest h, sent-cells F (next F e (a .given)) rest) refl)
+    (λ n place h. rw (sent-ground F e a rest n place h, input-ground F e a rest n place h) (sent-cells F e rest))
 
 -- each accepted step sends one symbol
 pub length-sent : (F : Frame) (e : Emitter) (steps : List Send) → length (sent (frameEntries F) e steps) ≡ length (input (frameEntries F) e steps)
-unfolding ringOf
+unfolding cellsSent
 length-sent F e steps =
     let gs : List Given = input (frameEntries F) e steps in
-    ap length (sent-ring F e steps) ∙ length-map (ringOf F e gs) (lineSymbol F)
-    ∙ length-ringSent (F .depth) (cells F) (delay F) (e .state .row) (e .store) (inputs F (e .state .phase) gs)
+    ap length (sent-cells F e steps) ∙ length-map (cellsSent F e gs) (lineSymbol F)
+    ∙ length-placesSent (delay F) (cells F) (e .store) (inputs F (e .state .phase) gs)
     ∙ length-inputs F (e .state .phase) gs
 
 -- ---- what the accepted steps were given
@@ -120,76 +120,72 @@ given-early F gs i h = List·getD-append (replicate (F .depth) flush) gs flush i
 pub delay-below : (F : Frame) → Sound F → (p : ℕ) → delay F p < F .depth
 delay-below F ok p = mod-lt p (ok .depth-pos)
 
-module _ (F : Frame) (ok : Sound F) (j : ℕ) (hj : j < F .phases) (lent : List ℕ) (fits : F .depth * cells F ≤ length lent) where
-  store-fits : F .depth * cells F ≤ length (freshStore F j lent)
-  unfolding freshStore
+module _ (F : Frame) (ok : Sound F) (j : ℕ) (hj : j < F .phases) (lent : List ℕ) (fits : emitterPlaces F ≤ length lent) where
+  store-fits : placesBefore (delay F) (cells F) ≤ length (freshStore F j lent)
+  unfolding freshStore emitterPlaces
   store-fits = rw length-sets fits
 
-  -- row k of the fresh store
-  fresh-at : (k p : ℕ) → 0 < k → k < F .depth → p < cells F
-      → cellAt (cells F) (freshStore F j lent) k p ≡ getD (inputCells F (phaseBack F j (F .depth - k)) flush) p 0
-  unfolding freshStore cellAt freshCell
-  fresh-at zero p z h hp = absurd (not-suc-le-zero z)
-  fresh-at (suc k) p z h hp =
-      let f : ℕ → ℕ = λ i. freshCell F j (i / cells F) (i % cells F) in
-      let l : suc k * cells F + p < F .depth * cells F = digits-lt h hp in
-      getD-sets-0 lent (tabulate f (F .depth * cells F)) 0 (suc k * cells F + p) (rw length-tabulate l) (rw length-tabulate fits)
-      ∙ getD-tabulate f (F .depth * cells F) 0 (suc k * cells F + p) l
-      ∙ rw (digits-div (suc k) hp, digits-mod (suc k) hp) refl
+  fresh-length : (p : ℕ) → p < cells F → length (freshPlaces F j p) ≡ delay F p
+  unfolding freshPlaces
+  fresh-length p hp = length-tabulate _ (delay F p)
+
+  -- place i of cell p in the fresh store
+  pub fresh-at : (p i : ℕ) → p < cells F → i < delay F p
+      → getD (freshStore F j lent) (placesBefore (delay F) p + i) 0 ≡ getD (inputCells F (phaseBack F j (delay F p - i)) flush) p 0
+  unfolding freshStore freshPlaces emitterPlaces
+  fresh-at p i hp h =
+      let n : length (joined (freshPlaces F j) (cells F)) ≡ placesBefore (delay F) (cells F) = joined-length (freshPlaces F j) (delay F) (cells F) fresh-length in
+      getD-sets-0 lent (joined (freshPlaces F j) (cells F)) 0 (placesBefore (delay F) p + i) (omega (arith, start-grow (delay F) p (cells F) hp)) (omega arith)
+      ∙ joined-at (freshPlaces F j) (delay F) (cells F) fresh-length p i hp h ∙ getD-tabulate _ (delay F p) 0 i h
 
   module _ (gs : List Given) where
-    ring : List (List ℕ)
-    ring = ringSent (F .depth) (cells F) (delay F) 0 (freshStore F j lent) (inputs F j gs)
-
-    lens : (i : ℕ) → i < length (inputs F j gs) → length (getD (inputs F j gs) i []) ≡ cells F
-    lens i h = ap length (inputs-at F j gs hj i (rw length-inputs at h)) ∙ length-input F (phaseOf F j i) (getD gs i flush)
+    out : List (List ℕ)
+    out = placesSent (delay F) (cells F) (freshStore F j lent) (inputs F j gs)
 
     cell-late : (i p : ℕ) → i < length gs → p < cells F → delay F p ≤ i
-        → getD (getD ring i []) p 0 ≡ getD (inputCells F (phaseBack F (j + i) (delay F p)) (givenBefore F gs (i + F .depth - delay F p))) p 0
-    unfolding ring
+        → getD (getD out i []) p 0 ≡ getD (inputCells F (phaseBack F (j + i) (delay F p)) (givenBefore F gs (i + F .depth - delay F p))) p 0
+    unfolding out
     cell-late i p hi hp h =
         let e : i + F .depth - delay F p ≡ F .depth + (i - delay F p) = omega arith in
         let w : j + i + (F .phases - delay F p) ≡ j + (i - delay F p) + F .phases = omega (arith, delay-below F ok p, ok .depth-le) in
-        late (F .depth) (cells F) (ok .depth-pos) (delay F) (delay-below F ok) (freshStore F j lent) (inputs F j gs) store-fits lens i p (rw length-inputs hi) hp h
+        late (delay F) (cells F) (inputs F j gs) (freshStore F j lent) store-fits i p (rw length-inputs hi) hp h
         ∙ rw (inputs-at F j gs hj (i - delay F p) (omega arith), e, given-late F gs (i - delay F p), w, add-mod-right) refl
 
     cell-early : (i p : ℕ) → i < length gs → p < cells F → i < delay F p
-        → getD (getD ring i []) p 0 ≡ getD (inputCells F (phaseBack F (j + i) (delay F p)) (givenBefore F gs (i + F .depth - delay F p))) p 0
-    unfolding ring
+        → getD (getD out i []) p 0 ≡ getD (inputCells F (phaseBack F (j + i) (delay F p)) (givenBefore F gs (i + F .depth - delay F p))) p 0
+    unfolding out
     cell-early i p hi hp h =
-        let k : ℕ = i + F .depth - delay F p in
-        let b : k < F .depth = omega (arith, delay-below F ok p) in
-        let w : j + (F .phases - (F .depth - k)) ≡ j + i + (F .phases - delay F p) = omega (arith, delay-below F ok p, ok .depth-le) in
-        early (F .depth) (cells F) (ok .depth-pos) (delay F) (delay-below F ok) (freshStore F j lent) (inputs F j gs) store-fits lens i p (rw length-inputs hi) hp h
-        ∙ fresh-at k p (omega (arith, delay-below F ok p)) b hp
-        ∙ rw (given-early F gs k b, w) refl
+        let w : j + (F .phases - (delay F p - i)) ≡ j + i + (F .phases - delay F p) = omega (arith, delay-below F ok p, ok .depth-le) in
+        early (delay F) (cells F) (inputs F j gs) (freshStore F j lent) store-fits i p (rw length-inputs hi) hp h
+        ∙ fresh-at p i hp h
+        ∙ rw (given-early F gs (i + F .depth - delay F p) (omega (arith, delay-below F ok p)), w) refl
 
-    ring-closed : (i : ℕ) → i < length gs → getD ring i [] ≡ closedCells F j gs i
-    unfolding ring closedCells
-    ring-closed i hi =
-        let n : length (getD ring i []) ≡ cells F = length-cells (F .depth) (cells F) (delay F) 0 (freshStore F j lent) (inputs F j gs) i (rw length-inputs hi) in
-        ext-getD 0 (getD ring i []) (closedCells F j gs i) (n ∙ sym (length-tabulate _ (cells F)))
+    out-closed : (i : ℕ) → i < length gs → getD out i [] ≡ closedCells F j gs i
+    unfolding out closedCells
+    out-closed i hi =
+        let n : length (getD out i []) ≡ cells F = length-cells (delay F) (cells F) (freshStore F j lent) (inputs F j gs) i (rw length-inputs hi) in
+        ext-getD 0 (getD out i []) (closedCells F j gs i) (n ∙ sym (length-tabulate _ (cells F)))
         (λ p hp′.
         let hp : p < cells F = rw n at hp′ in
         by-cases (decLt i (delay F p)) (λ c. cell-early i p hi hp c) (λ c. cell-late i p hi hp (omega arith))
         ∙ sym (getD-tabulate _ (cells F) 0 p hp))
 
-    length-ring : length ring ≡ length gs
-    unfolding ring
-    length-ring = length-ringSent (F .depth) (cells F) (delay F) 0 (freshStore F j lent) (inputs F j gs) ∙ length-inputs F j gs
+    length-out : length out ≡ length gs
+    unfolding out
+    length-out = length-placesSent (delay F) (cells F) (freshStore F j lent) (inputs F j gs) ∙ length-inputs F j gs
 
-    ring-sent : map (lineSymbol F) ring ≡ closedSent F j gs
+    out-sent : map (lineSymbol F) out ≡ closedSent F j gs
     unfolding closedSent
-    ring-sent =
-        let n : length (map (lineSymbol F) ring) ≡ length gs = length-map ring (lineSymbol F) ∙ length-ring in
-        ext-getD [] (map (lineSymbol F) ring) (closedSent F j gs) (n ∙ sym (length-tabulate _ (length gs)))
+    out-sent =
+        let n : length (map (lineSymbol F) out) ≡ length gs = length-map out (lineSymbol F) ∙ length-out in
+        ext-getD [] (map (lineSymbol F) out) (closedSent F j gs) (n ∙ sym (length-tabulate _ (length gs)))
         (λ i hi.
         let hi′ : i < length gs = rw n at hi in
-        getD-map-in (lineSymbol F) ring i [] [] (rw length-ring hi′) ∙ ap (lineSymbol F) (ring-closed i hi′) ∙ sym (getD-tabulate _ (length gs) [] i hi′))
+        getD-map-in (lineSymbol F) out i [] [] (rw length-out hi′) ∙ ap (lineSymbol F) (out-closed i hi′) ∙ sym (getD-tabulate _ (length gs) [] i hi′))
 
   fresh-closed : (steps : List Send) → sent (frameEntries F) (freshEmitter F j lent) steps ≡ closedSent F j (input (frameEntries F) (freshEmitter F j lent) steps)
-  unfolding freshEmitter ring ringOf
-  fresh-closed steps = sent-ring F (freshEmitter F j lent) steps ∙ ring-sent (input (frameEntries F) (freshEmitter F j lent) steps)
+  unfolding freshEmitter out cellsSent
+  fresh-closed steps = sent-cells F (freshEmitter F j lent) steps ∙ out-sent (input (frameEntries F) (freshEmitter F j lent) steps)
 
 -- a run from a fresh start: what it sends, and that no ground refuses what it was given
 module _ (F : Frame) (j : ℕ) (e : Emitter) (fresh : FreshIn F j e) (steps : List Send) where

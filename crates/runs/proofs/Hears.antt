@@ -1,5 +1,5 @@
 -- A receive step under an accepted plan: it is accepted exactly if no ground refuses it, and else changes nothing; and what a fresh start leaves. Assumes nothing.
-use Prim.Native.Nat.{ℕ, _*_, _≤_, _<_}
+use Prim.Native.Nat.{ℕ, _≤_, _<_}
 use mathlib.Core.Path.{_≡_, refl, sym, ap, _∙_}
 use mathlib.Core.Bool.{Bool, true, false, not, _&&_, _||_}
 use mathlib.Core.List.{List, _∷_}
@@ -15,8 +15,8 @@ use Rattle.rules.specs.declared.Finding.{Finding}
 use Rattle.rules.specs.declared.Finding.the-variants.{Fine, Ground}
 use Rattle.rules.specs.declared.ReceiverState.{ReceiverState}
 use Rattle.rules.specs.declared.ListenAnswer.the-variants as a-start
-use Rattle.rules.specs.Frame.{Frame, cells}
-use Rattle.rules.specs.Store.{fillerStore}
+use Rattle.rules.specs.Frame.{Frame}
+use Rattle.rules.specs.Store.{receiverPlaces, fillerStore}
 use Rattle.rules.specs.Steps.{shortStore}
 use Rattle.rules.specs.Receive as receive
 use Rattle.rules.specs.Receive.{Receiver, Arrival, Receiving, Listening, listens, turnedAway, outCount, shortBuffer, receiverGround16, receiverGround17, ground20, receiveGrounds, heardState, heardStore, received, frameReceive, frameListen}
@@ -39,9 +39,9 @@ take-sets b xs n e h =
 unfoldable pub nextHeard : Frame → Receiver → List ℕ → Receiver
 nextHeard F v y = record { state = heardState F (v .state); store = heardStore F v y }
 
--- what an accepted step tells that hands out xs unless it is warming
-unfoldable pub tells : Frame → ReceiverState → List ℕ → Outcome
-tells F v xs = pick (receive.warming F v) warming (handed (outCount F v) xs)
+-- the outcome of an accepted step that hands out xs unless it is warming
+unfoldable pub outcomeWith : Frame → ReceiverState → List ℕ → Outcome
+outcomeWith F v xs = pick (receive.warming F v) warming (handed (outCount F v) xs)
 
 module _ (F : Frame) (v : Receiver) (a : Arrival) where
   after : Finding → Receiving
@@ -68,11 +68,11 @@ module _ (F : Frame) (v : Receiver) (a : Arrival) where
   buffer-fits h q =
       let rest = both-fine (receiverGround16 F (v .state)) _ h .1 in
       let short = when-fine 17 0 _ (both-fine _ (ground20 F (v .state .phase) (a .symbol)) rest .0) in
-      ltb-false _ _ (sym (ap (λ (b : Bool). not b && ltb (length (a .buffer)) (outCount F (v .state))) q) ∙ neither (shortStore F (v .store) || not (eqb (length (a .symbol)) (F .width))) _ short .1)
+      ltb-false _ _ (sym (ap (λ (b : Bool). not b && ltb (length (a .buffer)) (outCount F (v .state))) q) ∙ neither (shortStore (receiverPlaces F) (v .store) || not (eqb (length (a .symbol)) (F .width))) _ short .1)
 
-  tells-handed : receiveGrounds F v a ≡ Fine → outcomeOf (received F v a .answer) (received F v a .buffer) ≡ tells F (v .state) (receive.handed F v (a .symbol))
-  unfolding received tells receive.handed
-  tells-handed h =
+  outcome-handed : receiveGrounds F v a ≡ Fine → outcomeOf (received F v a .answer) (received F v a .buffer) ≡ outcomeWith F (v .state) (receive.handed F v (a .symbol))
+  unfolding received outcomeWith receive.handed
+  outcome-handed h =
       by-test (receive.warming F (v .state)) (λ q. rw q refl)
       (λ q. rw q (ap (handed (outCount F (v .state))) (take-sets (a .buffer) (receive.handed F v (a .symbol)) (outCount F (v .state)) (length-data F _ _) (buffer-fits h q))))
 
@@ -93,15 +93,15 @@ module _ (F : Frame) (v : Receiver) (a : Arrival) where
     heard-ground n place h = rw (step-ground n place h) refl
 
     pub outcome-fine : receiveGrounds F v a ≡ Fine
-        → outcomes (frameEntries F) v (a ∷ rest) ≡ tells F (v .state) (receive.handed F v (a .symbol)) ∷ outcomes (frameEntries F) (nextHeard F v (a .symbol)) rest
+        → outcomes (frameEntries F) v (a ∷ rest) ≡ outcomeWith F (v .state) (receive.handed F v (a .symbol)) ∷ outcomes (frameEntries F) (nextHeard F v (a .symbol)) rest
     unfolding outcomes acceptedSteps received nextHeard
-    outcome-fine h = rw (← tells-handed h) (by-test (receive.warming F (v .state)) (λ q. rw (step-fine h, q) refl) (λ q. rw (step-fine h, q) refl))
+    outcome-fine h = rw (← outcome-handed h) (by-test (receive.warming F (v .state)) (λ q. rw (step-fine h, q) refl) (λ q. rw (step-fine h, q) refl))
 
     pub outcome-ground : (n place : ℕ) → receiveGrounds F v a ≡ Ground n place → outcomes (frameEntries F) v (a ∷ rest) ≡ outcomes (frameEntries F) v rest
     unfolding outcomes acceptedSteps
     outcome-ground n place h = rw (step-ground n place h) refl
 
--- each accepted step tells something
+-- each accepted step has an outcome
 pub length-outcomes : (F : Frame) (v : Receiver) (steps : List Arrival) → length (outcomes (frameEntries F) v steps) ≡ length (heard (frameEntries F) v steps)
 unfolding outcomes heard
 length-outcomes F v steps = length-map (receivings (frameEntries F) v steps) _ ∙ sym (length-map (receivings (frameEntries F) v steps) (λ x. x .0 .symbol))
@@ -110,13 +110,13 @@ length-outcomes F v steps = length-map (receivings (frameEntries F) v steps) _ �
 
 -- the receiver that a fresh start at phase j leaves in the lent store
 unfoldable pub freshReceiver : Frame → ℕ → List ℕ → Receiver
-freshReceiver F j lent = record { state = record { phase = j; row = 0; heard = 0 }; store = fillerStore F lent }
+freshReceiver F j lent = record { state = record { phase = j; heard = 0 }; store = fillerStore F lent }
 
 -- v is one, in a store that is long enough
 pub record ListensIn (F : Frame) (j : ℕ) (v : Receiver) : Type 0 where
   pub lent : List ℕ
   pub phase-in : j < F .phases
-  pub fits : F .depth * cells F ≤ length lent
+  pub fits : receiverPlaces F ≤ length lent
   pub is-fresh : v ≡ freshReceiver F j lent
 
 -- the receiver that an answer and a store make, u where the answer refuses
@@ -126,7 +126,7 @@ receiverIn u x = elim (x .answer) [ a-start.Started e ↦ record { state = e; st
 started : (F : Frame) (j : ℕ) (lent : List ℕ) (v : Receiver) → frameListen F j lent ≡ listens (a-start.Started (v .state)) (v .store) → ListensIn F j v
 unfolding frameListen receiverIn freshReceiver
 started F j lent v s =
-    let r = not-refused F j lent (listens (a-start.Started (record { phase = j; row = 0; heard = 0 })) (fillerStore F lent)) (λ n place. listens (a-start.Refused n place) lent)
+    let r = not-refused F (receiverPlaces F) j lent (listens (a-start.Started (record { phase = j; heard = 0 })) (fillerStore F lent)) (λ n place. listens (a-start.Refused n place) lent)
     (λ (x : Listening). isListening (x .answer)) (listens (a-start.Started (v .state)) (v .store)) s refl (λ n place. refl) in
     record { lent = lent; phase-in = r .0 .phase-in; fits = r .0 .fits; is-fresh = sym (ap (receiverIn v) (r .1)) }
 

@@ -1,7 +1,9 @@
 pub mod Steps
 pub mod Hears
 pub mod Numbered
+pub mod Grounds
 pub mod Emit
+pub mod Outcomes
 pub mod Places
 pub mod Fitting
 pub mod Unique

@@ -1,5 +1,5 @@
 -- A step under an accepted plan: it is sent exactly if no ground refuses it, and else changes nothing; and what a fresh start leaves. Assumes nothing.
-use Prim.Native.Nat.{ℕ, _*_, _≤_, _<_}
+use Prim.Native.Nat.{ℕ, _≤_, _<_}
 use mathlib.Core.Path.{_≡_, refl, sym, ap, _∙_}
 use mathlib.Core.Logic.{_↔_}
 use mathlib.Core.Bool.{Bool, true, false, not, false≢true}
@@ -17,9 +17,9 @@ use Rattle.rules.specs.declared.StartAnswer.the-variants as a-start
 use Rattle.rules.specs.declared.ListenAnswer.the-variants as a-listen
 use Rattle.rules.specs.Plan.{planOf}
 use Rattle.rules.specs.Grounds.{ground?, grounds1to15}
-use Rattle.rules.specs.Frame.{Frame, frameOf, cells, dataCount, Given, flush, symbol, dataList, filler, topData}
-use Rattle.rules.specs.Store.{freshStore}
-use Rattle.rules.specs.Steps.{Emitter, Send, Sending, Starting, starts, refused, ground16, shortStore, stateGround16, ground17, givenGrounds, sendGrounds, nextState, sentStore, sentSymbol, accepted, frameStep, startGrounds, frameStart, sendStep, startStep}
+use Rattle.rules.specs.Frame.{Frame, frameOf, dataCount, Given, flush, symbol, dataList, filler, topData}
+use Rattle.rules.specs.Store.{emitterPlaces, freshStore}
+use Rattle.rules.specs.Steps.{Emitter, Send, Sending, Starting, starts, refused, ground16, shortStore, ground17, givenGrounds, sendGrounds, nextState, sentStore, sentSymbol, accepted, frameStep, startGrounds, frameStart, sendStep, startStep}
 use Rattle.rules.specs.Receive.{listens, turnedAway, frameReceive, frameListen, hearStep, listenStep}
 use Rattle.records.proofs.RecordLaws.{not-fine, both-fine}
 use Rattle.facts.proofs.Accepted.{when-fine}
@@ -64,7 +64,7 @@ module _ (F : Frame) (j : ℕ) where
 abbrev pub frameEntries : Frame → Entries
 frameEntries F = record { start = frameStart F; send = frameStep F; listen = frameListen F; hear = frameReceive F; whole = λ x. true; read = λ x. x }
 
-as-given : (g : Given) → readGiven (λ x. x) g ≡ g
+pub as-given : (g : Given) → readGiven (λ x. x) g ≡ g
 as-given flush = refl
 as-given (symbol ds) = refl
 
@@ -75,7 +75,7 @@ next F e g = record { state = nextState F (e .state); store = sentStore F e g }
 module _ (F : Frame) (e : Emitter) (a : Send) where
   pub fine-given : sendGrounds F e a ≡ Fine → givenGrounds F (e .state .phase) (a .given) ≡ Fine
   unfolding sendGrounds
-  fine-given h = both-fine (ground17 F (e .store) (a .room)) _ (both-fine (stateGround16 F (e .state .phase) (e .state .row)) _ h .1) .1
+  fine-given h = both-fine (ground17 F (emitterPlaces F) (e .store) (a .room)) _ (both-fine (ground16 F (e .state .phase)) _ h .1) .1
 
   pub step-fine : sendGrounds F e a ≡ Fine → frameStep F e a ≡ accepted F e (a .given)
   unfolding frameStep
@@ -133,37 +133,37 @@ module _ (F : Frame) (e : Emitter) (a : Send) where
 
 -- the emitter that a fresh start at phase j leaves in the lent store
 unfoldable pub freshEmitter : Frame → ℕ → List ℕ → Emitter
-freshEmitter F j lent = record { state = record { phase = j; row = 0 }; store = freshStore F j lent }
+freshEmitter F j lent = record { state = record { phase = j }; store = freshStore F j lent }
 
 -- e is one, in a store that is long enough
 pub record FreshIn (F : Frame) (j : ℕ) (e : Emitter) : Type 0 where
   pub lent : List ℕ
   pub phase-in : j < F .phases
-  pub fits : F .depth * cells F ≤ length lent
+  pub fits : emitterPlaces F ≤ length lent
   pub is-fresh : e ≡ freshEmitter F j lent
 
--- what no ground of a fresh start leaves
-pub record Startable (F : Frame) (j : ℕ) (lent : List ℕ) : Type 0 where
+-- what no ground of a fresh start leaves, of a store that needs so many places
+pub record Startable (F : Frame) (places j : ℕ) (lent : List ℕ) : Type 0 where
   pub phase-in : j < F .phases
-  pub fits : F .depth * cells F ≤ length lent
+  pub fits : places ≤ length lent
 
-pub startable : (F : Frame) (j : ℕ) (lent : List ℕ) → startGrounds F j lent ≡ Fine → Startable F j lent
+startable : (F : Frame) (places j : ℕ) (lent : List ℕ) → startGrounds F places j lent ≡ Fine → Startable F places j lent
 unfolding startGrounds ground16 shortStore
-startable F j lent h =
-    let long : Finding = ground? 17 (when (shortStore F lent) 0) in
+startable F places j lent h =
+    let long : Finding = ground? 17 (when (shortStore places lent) 0) in
     record {
       phase-in = leb-false _ _ (when-fine 16 0 _ (both-fine _ long h .0));
       fits = ltb-false _ _ (when-fine 17 0 _ (both-fine (ground16 F j) long h .1));
     }
 
 -- a fresh start, of an emitter or a receiver, that was not refused: no ground holds, and it left what it makes
-pub not-refused : {T : Type 0} (F : Frame) (j : ℕ) (lent : List ℕ) (made : T) (away : ℕ → ℕ → T) (started : T → Bool) (x : T)
-    → elim (startGrounds F j lent) [ Fine ↦ made | Ground n place ↦ away n place ] ≡ x → started x ≡ true → ((n place : ℕ) → started (away n place) ≡ false)
-    → Startable F j lent × (made ≡ x)
-not-refused {T} F j lent made away started x e was never =
+pub not-refused : {T : Type 0} (F : Frame) (places j : ℕ) (lent : List ℕ) (made : T) (away : ℕ → ℕ → T) (started : T → Bool) (x : T)
+    → elim (startGrounds F places j lent) [ Fine ↦ made | Ground n place ↦ away n place ] ≡ x → started x ≡ true → ((n place : ℕ) → started (away n place) ≡ false)
+    → Startable F places j lent × (made ≡ x)
+not-refused {T} F places j lent made away started x e was never =
     let left : Finding → T = λ f. elim f [ Fine ↦ made | Ground n place ↦ away n place ] in
-    by-finding (startGrounds F j lent)
-    (λ h. (startable F j lent h, sym (ap left h) ∙ e))
+    by-finding (startGrounds F places j lent)
+    (λ h. (startable F places j lent h, sym (ap left h) ∙ e))
     (λ n place h. absurd (false≢true (sym (never n place) ∙ ap started (sym (ap left h) ∙ e) ∙ was)))
 
 -- the emitter that an answer and a store make, u where the answer refuses
@@ -173,7 +173,7 @@ emitterIn u x = elim (x .answer) [ a-start.Started e ↦ record { state = e; sto
 started : (F : Frame) (j : ℕ) (lent : List ℕ) (e : Emitter) → frameStart F j lent ≡ starts (a-start.Started (e .state)) (e .store) → FreshIn F j e
 unfolding frameStart emitterIn freshEmitter
 started F j lent e s =
-    let r = not-refused F j lent (starts (a-start.Started (record { phase = j; row = 0 })) (freshStore F j lent)) (λ n place. starts (a-start.Refused n place) lent)
+    let r = not-refused F (emitterPlaces F) j lent (starts (a-start.Started (record { phase = j })) (freshStore F j lent)) (λ n place. starts (a-start.Refused n place) lent)
     (λ (x : Starting). isStarted (x .answer)) (starts (a-start.Started (e .state)) (e .store)) s refl (λ n place. refl) in
     record { lent = lent; phase-in = r .0 .phase-in; fits = r .0 .fits; is-fresh = sym (ap (emitterIn e) (r .1)) }
 

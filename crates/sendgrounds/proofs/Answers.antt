@@ -14,9 +14,10 @@ use Rattle.rules.specs.Device.{phases}
 use Rattle.rules.specs.Plan.{planOf}
 use Rattle.rules.specs.Grounds.{_else_, grounds1to15, answer}
 use Rattle.rules.specs.Frame.{Frame, frameOf, cells, inputCells, lineSymbol}
-use Rattle.rules.specs.Store.{putRow, nextRow, delayed}
+use Rattle.rules.specs.Places.{emitterDelay, oldest, moved}
+use Rattle.rules.specs.Store.{emitterPlaces}
 use Rattle.rules.specs.Steps as steps
-use Rattle.rules.specs.Steps.{Emitter, Send, Sending, leaves, stateGround16, ground17, givenGrounds, sendGrounds, nextState, sentStore, sentSymbol, accepted, frameStep, sendStep}
+use Rattle.rules.specs.Steps.{Emitter, Send, Sending, leaves, ground16, ground17, givenGrounds, sendGrounds, nextState, sentStore, sentSymbol, accepted, frameStep, sendStep}
 use Rattle.records.proofs.RecordLaws.{both-fine}
 use Rattle.verdicts.proofs.Verdicts.{else-assoc, accepted-is, refused-is}
 use Rattle.steps.proofs.Lent.{Lent, lent}
@@ -28,7 +29,7 @@ module _ (d : Device) (s : List ℕ) (e : Emitter) (a : Send) where
 
   -- grounds 16 and 17 of a step, and those of what it is given
   abbrev of-lent : Finding
-  of-lent = stateGround16 F (e .state .phase) (e .state .row) else ground17 F (e .store) (a .room)
+  of-lent = ground16 F (e .state .phase) else ground17 F (emitterPlaces F) (e .store) (a .room)
 
   abbrev of-given : Finding
   of-given = givenGrounds F (e .state .phase) (a .given)
@@ -43,7 +44,7 @@ module _ (d : Device) (s : List ℕ) (e : Emitter) (a : Send) where
     staged : (f : Finding) → f ≡ (of-lent else of-given) → answer f (cells F) ≡ sendVerdict d s e a
     unfolding sendVerdict sendGrounds
     staged f h =
-        ap (λ (x : Finding). answer x (cells F)) (h ∙ else-assoc (stateGround16 F (e .state .phase) (e .state .row)) (ground17 F (e .store) (a .room)) of-given)
+        ap (λ (x : Finding). answer x (cells F)) (h ∙ else-assoc (ground16 F (e .state .phase)) (ground17 F (emitterPlaces F) (e .store) (a .room)) of-given)
         ∙ sym (ap (λ (x : Finding). answer (x else sendGrounds F e a) (cells F)) fine)
 
     -- refused by 16 or 17
@@ -82,23 +83,23 @@ module _ (d : Device) (s : List ℕ) (e : Emitter) (a : Send) where
     passed = accepted-is (grounds1to15 d s else sendGrounds F e a) n (cells F) h
 
     -- grounds 16 and 17 are passed
-    pub fit : Lent F (e .state .phase) (e .state .row) (e .store) (a .room)
+    pub fit : Lent F (e .state .phase) (emitterPlaces F) (e .store) (a .room)
     unfolding sendGrounds
     fit =
-        let late = both-fine (stateGround16 F (e .state .phase) (e .state .row)) (ground17 F (e .store) (a .room) else of-given) (both-fine (grounds1to15 d s) (sendGrounds F e a) (passed .0) .1) in
-        lent F (e .state .phase) (e .state .row) (e .store) (a .room)
-        (λ i. sym (late .0) i else sym (both-fine (ground17 F (e .store) (a .room)) of-given (late .1) .0) i)
+        let late = both-fine (ground16 F (e .state .phase)) (ground17 F (emitterPlaces F) (e .store) (a .room) else of-given) (both-fine (grounds1to15 d s) (sendGrounds F e a) (passed .0) .1) in
+        lent F (e .state .phase) (emitterPlaces F) (e .store) (a .room)
+        (λ i. sym (late .0) i else sym (both-fine (ground17 F (emitterPlaces F) (e .store) (a .room)) of-given (late .1) .0) i)
 
-    -- an accepted step: the row stored, the delayed cells placed, the state gone up
+    -- an accepted step: of each cell the oldest placed, the input cell stored, the phase gone up
     pub sent : (m k : ℕ) (x st out : List ℕ) (r : EmitterState) → m ≡ planOf s .depth → k ≡ n → x ≡ inputCells F (e .state .phase) (a .given)
-        → st ≡ putRow k (e .store) (e .state .row) x
-        → out ≡ lineSymbol F (delayed m k (λ p. p % m) (putRow k (e .store) (e .state .row) x) (e .state .row))
-        → r ≡ record { phase = (e .state .phase + 1) % phases; row = nextRow m (e .state .row) }
+        → st ≡ moved (emitterDelay m) k (e .store) x
+        → out ≡ lineSymbol F (oldest (emitterDelay m) k (e .store) x)
+        → r ≡ record { phase = (e .state .phase + 1) % phases }
         → Shown (a-send.Sent r) st out
     unfolding after accepted sentSymbol sentStore nextState frameOf
     sent m k x st out r em ek ex es eo er =
         let all = ek ∙ passed .1 in
-        let put : putRow k (e .store) (e .state .row) x ≡ sentStore F e (a .given) = λ i. putRow (all i) (e .store) (e .state .row) (ex i) in
-        let sends : out ≡ sentSymbol F e (a .given) = eo ∙ (λ i. lineSymbol F (delayed (em i) (all i) (λ p. p % em i) (put i) (e .state .row))) in
-        let next : r ≡ nextState F (e .state) = er ∙ (λ i. record { phase = (e .state .phase + 1) % phases; row = nextRow (em i) (e .state .row) }) in
-        (λ i. leaves (a-send.Sent (next i)) ((es ∙ put) i) (sends i)) ∙ found Fine (sym (passed .0))
+        let put : st ≡ sentStore F e (a .given) = es ∙ (λ i. moved (emitterDelay (em i)) (all i) (e .store) (ex i)) in
+        let sends : out ≡ sentSymbol F e (a .given) = eo ∙ (λ i. lineSymbol F (oldest (emitterDelay (em i)) (all i) (e .store) (ex i))) in
+        let next : r ≡ nextState F (e .state) = er in
+        (λ i. leaves (a-send.Sent (next i)) (put i) (sends i)) ∙ found Fine (sym (passed .0))

@@ -37,6 +37,7 @@ fn admit_step(
     let ni = n as usize;
     let m = records::number_at(plan, 6);
     let j = state.phase as usize;
+    let need = places::emitter_places(m, ni);
     let mut kc = [0u16; 4096];
     let mut flag = [0u8; 4096];
     match steps::ready(
@@ -45,7 +46,7 @@ fn admit_step(
         marks,
         m,
         state.phase,
-        state.row,
+        need,
         places,
         width,
         j,

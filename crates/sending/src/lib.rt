@@ -8,7 +8,6 @@ ghost use Rattle.rules.specs.Device.{phases};
 ghost use Rattle.rules.specs.Fits.{Fits};
 ghost use Rattle.rules.specs.Plan.{planOf};
 ghost use Rattle.rules.specs.Frame.{frameOf, cells, dataCount};
-ghost use Rattle.rules.specs.Store.{nextRow};
 ghost use Rattle.fill.specs.Flags.{Flagged};
 ghost use Rattle.steps.specs.Begins.{Begins};
 ghost use Rattle.sending.specs.Sent.{givenBy};
@@ -18,14 +17,13 @@ use rules::Device;
 use rules::EmitterState;
 use rules::Finding;
 
-// The state of the next step: phase and row go up by one.
-pub fn next_state(m: usize, state: EmitterState) -> EmitterState
-    requires { ⌜ (state .phase < phases) × (state .row < m) × (m ≤ 4096) ⌝ }
-    ensures { λ r. ⌜ r ≡ record { phase = (state .phase + 1) % phases; row = nextRow m (state .row) } ⌝ }
+// The state of the next step: the phase goes up by one.
+pub fn next_state(state: EmitterState) -> EmitterState
+    requires { ⌜ state .phase < phases ⌝ }
+    ensures { λ r. ⌜ r ≡ record { phase = (state .phase + 1) % phases } ⌝ }
 {
     EmitterState {
         phase: steps::next_phase(state.phase),
-        row: steps::next_row(state.row, m),
     }
 }
 

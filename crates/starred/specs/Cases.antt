@@ -1,5 +1,5 @@
--- The starred cases of document 01, "Plan A and its neighbours", as one table, and the plans at the limits that 02, Req 02 moved. Proved in
--- proofs/Starred.antt. Assumes nothing.
+-- The starred cases of document 01, "Plan A and its neighbours", as one table, the plans at the limits that 02, Req 02 moved, and
+-- the lengths of Plan A's stores that 02, Req 03 names. Proved in proofs/Starred.antt. Assumes nothing.
 use Prim.Native.Nat.{ℕ}
 use mathlib.Core.Path.{_≡_}
 use mathlib.Core.Bool.{true}
@@ -11,6 +11,7 @@ use Rattle.rules.specs.Plan.{Plan, planOf}
 use Rattle.rules.specs.Roles.{predefined, scattered, rankOf}
 use Rattle.rules.specs.Grounds.{verdict}
 use Rattle.rules.specs.Frame.{Frame, frameOf, cellRank, spot, sentPhase, held}
+use Rattle.rules.specs.Store.{emitterPlaces, receiverPlaces}
 
 -- L 972, M 4; 0 to 799 excluded; then another excluded range, and further records
 unfoldable pub planWith : List ℕ → List ℕ
@@ -70,3 +71,4 @@ Starred =
     × (verdict khz50 planAtLimits ≡ Accepted 460)
     × (verdict khz50 planTo854 ≡ Refused 14 835)
     × (verdict khz50 planTo853 ≡ Accepted 421)
+    × (emitterPlaces frameA ≡ 636) × (receiverPlaces frameA ≡ 639)

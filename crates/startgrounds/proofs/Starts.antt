@@ -1,18 +1,22 @@
--- The verdict on a fresh start: one law for each return of `admit`, what it says where no ground holds, and what the start then answers and
--- leaves. Assumes nothing.
+-- The verdict on a fresh start: one law for each return, what it says where no ground holds, and what the start then answers and leaves. Assumes
+-- nothing.
 use mathlib.Core.Path.{_≡_, refl, sym, ap, _∙_, subst}
 use mathlib.Core.Bool.{Bool}
 use mathlib.Core.List.{List, _++_}
-use Prim.Native.Nat.{ℕ, _*_, _≤_, _<_}
+use Prim.Native.Nat.{ℕ, _-_, _*_, _≤_, _<_}
+use native.Mathlib.Nat.{mul-le-mul}
 use native.Mathlib.Omega.{arith}
 use lib.Dec.{leb, ltb}
-use lib.ListN.{length, getD, take}
-use lib.Seq.{take-at}
+use lib.ListN.{length, getD, take, replicate}
+use lib.Seq.{sets, take-at}
 use borrow.Author.Tests.{lt-ltb, le-ltb, le-leb, lt-leb, leb-false, ltb-false}
 use Rattle.counting.specs.Search.{when}
 use Rattle.rules.specs.declared.Device.{Device}
 use Rattle.rules.specs.declared.Finding.{Finding}
 use Rattle.rules.specs.declared.Finding.the-variants.{Fine, Ground}
+use Rattle.rules.specs.declared.CountAnswer.{CountAnswer}
+use Rattle.rules.specs.declared.CountAnswer.the-variants as a-count
+use Rattle.rules.specs.declared.Verdict.{Verdict}
 use Rattle.rules.specs.declared.Verdict.the-variants.{Accepted, Refused}
 use Rattle.rules.specs.declared.StartAnswer.the-variants as a-start
 use Rattle.rules.specs.declared.ListenAnswer.the-variants as a-listen
@@ -20,46 +24,115 @@ use Rattle.rules.specs.Device.{phases}
 use Rattle.rules.specs.Plan.{planOf}
 use Rattle.rules.specs.Fits.{Fits, capacity}
 use Rattle.rules.specs.Grounds.{_else_, ground?, grounds1to15, answer, verdict}
-use Rattle.rules.specs.Frame.{Frame, frameOf, cells, spot}
-use Rattle.rules.specs.Store.{freshStore, fillerStore}
+use Rattle.rules.specs.Frame.{Frame, frameOf, cells, spot, filler}
+use Rattle.rules.specs.Places.{receiverDelay, placesBefore}
+use Rattle.rules.specs.Store.{emitterPlaces, receiverPlaces, freshStore, fillerStore}
 use Rattle.rules.specs.Steps.{Starting, starts, ground16, shortStore, startGrounds, frameStart, startStep}
 use Rattle.rules.specs.Receive.{Listening, listens, frameListen, listenStep}
 use Rattle.records.proofs.RecordLaws.{both-fine}
 use Rattle.facts.proofs.Accepted.{when-fine, long, depth-in}
 use Rattle.verdicts.specs.Studied.{Studied}
-use Rattle.verdicts.proofs.Verdicts.{no-ground, first-ground, accepted-is, refused-is}
+use Rattle.verdicts.proofs.Verdicts.{else-assoc, no-ground, first-ground, accepted-is, refused-is}
 use Rattle.spots.proofs.Frames.{cells-le}
 use Rattle.spots.proofs.Accepted.{accepted-cells}
+use Rattle.places.proofs.Sizes.{both-sizes}
 use Rattle.flushes.specs.Spotted.{Spotted}
-use Rattle.startgrounds.specs.Admit.{startVerdict}
+use Rattle.flushes.proofs.Fresh.{all-filler}
+use Rattle.startgrounds.specs.Admit.{phaseVerdict, startFinding, emitterVerdict, receiverAnswer}
 
--- ---- grounds 16 and 17
+-- ---- the numbers of a start
 
--- the two as functions of their tests
-tested : Bool → Bool → Finding
-tested b t = ground? 16 (when b 0) else ground? 17 (when t 0)
+-- N_I cells fit an array
+pub few : (d : Device) (s : List ℕ) (n : ℕ) → Fits d → n ≡ cells (frameOf d (planOf s)) → n ≤ capacity
+unfolding frameOf
+few d s n fits e = omega (arith, e, cells-le (frameOf d (planOf s)), fits .few)
 
-module _ (F : Frame) (j : ℕ) (s : List ℕ) where
-  bad-phase : F .phases ≤ j → Ground 16 0 ≡ startGrounds F j s
-  unfolding startGrounds ground16 tested
-  bad-phase h = sym (ap (λ (b : Bool). tested b (shortStore F s)) (le-leb (F .phases) j h))
+-- a receiver's are no more than 4,096 times 128
+pub receiver-small : (m n : ℕ) → 0 < m → m ≤ phases → n ≤ capacity → placesBefore (receiverDelay m) n ≤ capacity * phases
+receiver-small m n pos hm hn =
+    omega (arith, both-sizes m n pos, mul-le-mul {n₁ = n} {m₁ = m - 1} {n₂ = capacity} {m₂ = phases} hn (let h : m - 1 ≤ phases = omega arith in h))
 
-  bad-store : j < F .phases → length s < F .depth * cells F → Ground 17 0 ≡ startGrounds F j s
-  unfolding startGrounds ground16 shortStore tested
-  bad-store h l = sym (λ i. tested (lt-leb (F .phases) j h i) (lt-ltb (length s) (F .depth * cells F) l i))
+-- ---- grounds 1 to 16
 
-  no-bad : j < F .phases → F .depth * cells F ≤ length s → Fine ≡ startGrounds F j s
-  unfolding startGrounds ground16 shortStore tested
-  no-bad h l = sym (λ i. tested (lt-leb (F .phases) j h i) (le-ltb (length s) (F .depth * cells F) l i))
+-- what is known of a plan and a phase where none of them holds
+pub record StartInOrder (d : Device) (s : List ℕ) (j n : ℕ) : Type 0 where
+  pub fine : grounds1to15 d s ≡ Fine
+  pub long : 8 ≤ length s
+  pub all : n ≡ cells (frameOf d (planOf s))
+  pub inside : j < phases
 
-  -- what they leave
-  left : startGrounds F j s ≡ Fine → (j < F .phases) × (F .depth * cells F ≤ length s)
-  unfolding startGrounds ground16 shortStore
-  left e =
-      let both = both-fine (ground16 F j) (ground? 17 (when (shortStore F s) 0)) e in
-      (leb-false (F .phases) j (when-fine 16 0 (leb (F .phases) j) (both .0)), ltb-false (length s) (F .depth * cells F) (when-fine 17 0 (ltb (length s) (F .depth * cells F)) (both .1)))
+module _ (d : Device) (s : List ℕ) (j : ℕ) where
+  -- the verdict as a function of what is found first and of the test of 16
+  early : Finding → Bool → Verdict
+  early f b = answer (f else ground? 16 (when b 0)) (cells (frameOf d (planOf s)))
 
--- ---- what a verdict says of what was found
+  early-is : early (grounds1to15 d s) (leb phases j) ≡ phaseVerdict d s j
+  unfolding phaseVerdict ground16 frameOf early
+  early-is = refl
+
+  pub by-plan : (g place : ℕ) → Refused g place ≡ verdict d s → Refused g place ≡ phaseVerdict d s j
+  unfolding early
+  by-plan g place e = sym (ap (λ (f : Finding). early f (leb phases j)) (first-ground d s g place e)) ∙ early-is
+
+  module _ (n : ℕ) (ok : Accepted n ≡ verdict d s) where
+    pub by-phase : phases ≤ j → Refused 16 0 ≡ phaseVerdict d s j
+    unfolding early
+    by-phase h = sym (λ i. early (no-ground d s n ok i) (le-leb phases j h i)) ∙ early-is
+
+    pub by-none-of-16 : j < phases → Accepted n ≡ phaseVerdict d s j
+    unfolding early
+    by-none-of-16 h = ap (λ (k : ℕ). Accepted k) (accepted-cells d s n ok) ∙ sym (λ i. early (no-ground d s n ok i) (lt-leb phases j h i)) ∙ early-is
+
+  pub in-order : (n : ℕ) → Accepted n ≡ phaseVerdict d s j → StartInOrder d s j n
+  unfolding phaseVerdict ground16 frameOf
+  in-order n e =
+      let a = accepted-is (grounds1to15 d s else ground16 (frameOf d (planOf s)) j) n (cells (frameOf d (planOf s))) e in
+      let both = both-fine (grounds1to15 d s) (ground16 (frameOf d (planOf s)) j) (a .0) in
+      record { fine = both .0; long = long d s (both .0); all = a .1; inside = leb-false phases j (when-fine 16 0 (leb phases j) (both .1)) }
+
+-- ---- grounds 1 to 17, of an end whose store needs so many places
+
+module _ (places : Frame → ℕ) (d : Device) (s : List ℕ) (j : ℕ) (store : List ℕ) where
+  -- what is found, as a function of what is found first and of the test of 17
+  found : Finding → Bool → Finding
+  found f b = f else ground? 17 (when b 0)
+
+  first16 : Finding
+  first16 = grounds1to15 d s else ground16 (frameOf d (planOf s)) j
+
+  found-is : startFinding places d s j store ≡ found first16 (ltb (length store) (places (frameOf d (planOf s))))
+  unfolding found first16 startFinding startGrounds shortStore
+  found-is = sym (else-assoc (grounds1to15 d s) (ground16 (frameOf d (planOf s)) j) (ground? 17 (when (ltb (length store) (places (frameOf d (planOf s)))) 0)))
+
+  -- one law for each return
+  pub by-earlier : (g place : ℕ) → Refused g place ≡ phaseVerdict d s j → startFinding places d s j store ≡ Ground g place
+  unfolding phaseVerdict found first16
+  by-earlier g place e = found-is ∙ ap (λ (f : Finding). found f (ltb (length store) (places (frameOf d (planOf s))))) (refused-is first16 g place (cells (frameOf d (planOf s))) e)
+
+  module _ (n : ℕ) (ok : Accepted n ≡ phaseVerdict d s j) where
+    passed : first16 ≡ Fine
+    unfolding phaseVerdict first16
+    passed = accepted-is first16 n (cells (frameOf d (planOf s))) ok .0
+
+    pub by-store : length store < places (frameOf d (planOf s)) → startFinding places d s j store ≡ Ground 17 0
+    unfolding found
+    by-store h = found-is ∙ (λ i. found (passed i) (lt-ltb (length store) (places (frameOf d (planOf s))) h i))
+
+    pub by-none : places (frameOf d (planOf s)) ≤ length store → startFinding places d s j store ≡ Fine
+    unfolding found
+    by-none h = found-is ∙ (λ i. found (passed i) (le-ltb (length store) (places (frameOf d (planOf s))) h i))
+
+  -- what is known where nothing is found
+  nothing-found : startFinding places d s j store ≡ Fine → (Accepted (cells (frameOf d (planOf s))) ≡ phaseVerdict d s j) × (places (frameOf d (planOf s)) ≤ length store)
+  unfolding found first16 phaseVerdict
+  nothing-found e =
+      let short : Bool = ltb (length store) (places (frameOf d (planOf s))) in
+      let both = both-fine first16 (ground? 17 (when short 0)) (sym found-is ∙ e) in (
+        sym (ap (λ (f : Finding). answer f (cells (frameOf d (planOf s)))) (both .0)),
+        ltb-false (length store) (places (frameOf d (planOf s))) (when-fine 17 0 short (both .1)),
+      )
+
+-- ---- what the start then answers and leaves
 
 -- one answer where nothing is found, else one by number and place
 after : {A : Type 0} → A → (ℕ → ℕ → A) → Finding → A
@@ -70,121 +143,125 @@ unfolding after
 after-else x r Fine g = refl
 after-else x r (Ground n place) g = refl
 
--- N_I cells fit an array
-pub few : (d : Device) (s : List ℕ) (n : ℕ) → Fits d → n ≡ cells (frameOf d (planOf s)) → n ≤ capacity
-unfolding frameOf
-few d s n fits e = omega (arith, e, cells-le (frameOf d (planOf s)), fits .few)
-
--- what is known of a plan and a store where no ground of 1 to 17 holds
-pub record StartInOrder (d : Device) (s : List ℕ) (j : ℕ) (store : List ℕ) (n : ℕ) : Type 0 where
-  pub fine : grounds1to15 d s ≡ Fine
-  pub long : 8 ≤ length s
-  pub all : n ≡ cells (frameOf d (planOf s))
-  pub inside : j < phases
-  pub rows : planOf s .depth * n ≤ length store
+-- ---- a fresh emitter
 
 module _ (d : Device) (s : List ℕ) (j : ℕ) (store : List ℕ) where
-  -- ---- one law for each return
+  -- from what is found to the verdict
+  pub emitter-refused : (g place : ℕ) → startFinding emitterPlaces d s j store ≡ Ground g place → Refused g place ≡ emitterVerdict d s j store
+  unfolding emitterVerdict
+  emitter-refused g place e = sym (ap (λ (f : Finding). answer f (cells (frameOf d (planOf s)))) e)
 
-  pub by-plan : (g place : ℕ) → Refused g place ≡ verdict d s → Refused g place ≡ startVerdict d s j store
-  unfolding startVerdict
-  by-plan g place e = sym (ap (λ (f : Finding). answer (f else startGrounds (frameOf d (planOf s)) j store) (cells (frameOf d (planOf s)))) (first-ground d s g place e))
+  pub emitter-accepted : (n : ℕ) → n ≡ cells (frameOf d (planOf s)) → startFinding emitterPlaces d s j store ≡ Fine → Accepted n ≡ emitterVerdict d s j store
+  unfolding emitterVerdict
+  emitter-accepted n en e = ap (λ (k : ℕ). Accepted k) en ∙ sym (ap (λ (f : Finding). answer f (cells (frameOf d (planOf s)))) e)
 
-  module _ (n : ℕ) (ok : Accepted n ≡ verdict d s) where
-    later : (f : Finding) → f ≡ startGrounds (frameOf d (planOf s)) j store → answer f n ≡ startVerdict d s j store
-    unfolding startVerdict
-    later f e =
-        (λ i. answer (e i) (accepted-cells d s n ok i))
-        ∙ sym (ap (λ (x : Finding). answer (x else startGrounds (frameOf d (planOf s)) j store) (cells (frameOf d (planOf s)))) (no-ground d s n ok))
+  -- and back
+  verdict-fine : (n : ℕ) → Accepted n ≡ emitterVerdict d s j store → (startFinding emitterPlaces d s j store ≡ Fine) × (n ≡ cells (frameOf d (planOf s)))
+  unfolding emitterVerdict
+  verdict-fine n e = accepted-is (startFinding emitterPlaces d s j store) n (cells (frameOf d (planOf s))) e
 
-    size : (m : ℕ) → m ≡ planOf s .depth → m * n ≡ frameOf d (planOf s) .depth * cells (frameOf d (planOf s))
-    unfolding frameOf
-    size m e = λ i. e i * accepted-cells d s n ok i
+  verdict-ground : (g place : ℕ) → Refused g place ≡ emitterVerdict d s j store → startFinding emitterPlaces d s j store ≡ Ground g place
+  unfolding emitterVerdict
+  verdict-ground g place e = refused-is (startFinding emitterPlaces d s j store) g place (cells (frameOf d (planOf s))) e
 
-    pub by-phase : phases ≤ j → Refused 16 0 ≡ startVerdict d s j store
-    unfolding frameOf
-    by-phase h = later (Ground 16 0) (bad-phase (frameOf d (planOf s)) j store h)
-
-    pub by-store : j < phases → (m : ℕ) → m ≡ planOf s .depth → length store < m * n → Refused 17 0 ≡ startVerdict d s j store
-    unfolding frameOf
-    by-store h m e l = later (Ground 17 0) (bad-store (frameOf d (planOf s)) j store h (omega (arith, size m e)))
-
-    pub by-none : j < phases → (m : ℕ) → m ≡ planOf s .depth → m * n ≤ length store → Accepted n ≡ startVerdict d s j store
-    unfolding frameOf
-    by-none h m e l = later Fine (no-bad (frameOf d (planOf s)) j store h (omega (arith, size m e)))
-
-  -- ---- what is found
-
-  refused : (g place : ℕ) → Refused g place ≡ startVerdict d s j store → (grounds1to15 d s else startGrounds (frameOf d (planOf s)) j store) ≡ Ground g place
-  unfolding startVerdict
-  refused g place e = refused-is (grounds1to15 d s else startGrounds (frameOf d (planOf s)) j store) g place (cells (frameOf d (planOf s))) e
-
-  accepted : (n : ℕ) → Accepted n ≡ startVerdict d s j store → ((grounds1to15 d s else startGrounds (frameOf d (planOf s)) j store) ≡ Fine) × (n ≡ cells (frameOf d (planOf s)))
-  unfolding startVerdict
-  accepted n e = accepted-is (grounds1to15 d s else startGrounds (frameOf d (planOf s)) j store) n (cells (frameOf d (planOf s))) e
-
-  pub admitted : (n : ℕ) → Accepted n ≡ startVerdict d s j store → StartInOrder d s j store n
-  unfolding frameOf
+  pub admitted : (n : ℕ) → Accepted n ≡ emitterVerdict d s j store → StartInOrder d s j n × (emitterPlaces (frameOf d (planOf s)) ≤ length store)
   admitted n e =
-      let a = accepted n e in
-      let both = both-fine (grounds1to15 d s) (startGrounds (frameOf d (planOf s)) j store) (a .0) in
-      let ok = left (frameOf d (planOf s)) j store (both .1) in
-      let same : planOf s .depth * n ≡ planOf s .depth * cells (frameOf d (planOf s)) = ap (λ (k : ℕ). planOf s .depth * k) (a .1) in
-      record { fine = both .0; long = long d s (both .0); all = a .1; inside = ok .0; rows = omega (arith, same, ok .1) }
-
-  -- ---- a fresh emitter
+      let v = verdict-fine n e in
+      let known = nothing-found emitterPlaces d s j store (v .0) in
+      (in-order d s j n (ap (λ (k : ℕ). Accepted k) (v .1) ∙ known .0), known .1)
 
   start-after : Finding → Starting
-  start-after = after (starts (a-start.Started (record { phase = j; row = 0 })) (freshStore (frameOf d (planOf s)) j store)) (λ n place. starts (a-start.Refused n place) store)
+  start-after = after (starts (a-start.Started (record { phase = j })) (freshStore (frameOf d (planOf s)) j store)) (λ n place. starts (a-start.Refused n place) store)
 
-  start-is : start-after (grounds1to15 d s else startGrounds (frameOf d (planOf s)) j store) ≡ startStep d s j store
-  unfolding startStep frameStart start-after after
-  start-is = after-else _ _ (grounds1to15 d s) (startGrounds (frameOf d (planOf s)) j store)
+  start-is : start-after (startFinding emitterPlaces d s j store) ≡ startStep d s j store
+  unfolding startStep frameStart startFinding start-after after
+  start-is = after-else _ _ (grounds1to15 d s) (startGrounds (frameOf d (planOf s)) (emitterPlaces (frameOf d (planOf s))) j store)
 
-  pub start-refused : (g place : ℕ) → Refused g place ≡ startVerdict d s j store → starts (a-start.Refused g place) store ≡ startStep d s j store
+  pub start-refused : (g place : ℕ) → Refused g place ≡ emitterVerdict d s j store → starts (a-start.Refused g place) store ≡ startStep d s j store
   unfolding start-after after
-  start-refused g place e = sym (ap start-after (refused g place e)) ∙ start-is
+  start-refused g place e = sym (ap start-after (verdict-ground g place e)) ∙ start-is
 
-  pub started : (n : ℕ) → Accepted n ≡ startVerdict d s j store → (st : List ℕ) → st ≡ freshStore (frameOf d (planOf s)) j store
-      → starts (a-start.Started (record { phase = j; row = 0 })) st ≡ startStep d s j store
+  pub started : (n : ℕ) → Accepted n ≡ emitterVerdict d s j store → (st : List ℕ) → st ≡ freshStore (frameOf d (planOf s)) j store
+      → starts (a-start.Started (record { phase = j })) st ≡ startStep d s j store
   unfolding start-after after
-  started n e st made = ap (starts (a-start.Started (record { phase = j; row = 0 }))) made ∙ sym (ap start-after (accepted n e .0)) ∙ start-is
+  started n e st made = ap (starts (a-start.Started (record { phase = j }))) made ∙ sym (ap start-after (verdict-fine n e .0)) ∙ start-is
 
-  -- ---- a fresh receiver
+-- ---- a fresh receiver
+
+-- what an answer says of its finding
+counted : Finding → ℕ → CountAnswer
+counted f n = after (a-count.Count n) a-count.Refused f
+
+count-is : (f : Finding) (n m : ℕ) → a-count.Count n ≡ counted f m → (f ≡ Fine) × (n ≡ m)
+unfolding counted after
+count-is Fine n m e = (refl, cc)
+count-is (Ground g k) n m e = let z : _≡_ {A = ℕ} 0 1 = cc in absurd (omega arith)
+
+ground-is : (f : Finding) (g k m : ℕ) → a-count.Refused g k ≡ counted f m → f ≡ Ground g k
+unfolding counted after
+ground-is Fine g k m e = let z : _≡_ {A = ℕ} 0 1 = cc in absurd (omega arith)
+ground-is (Ground a b) g k m e = cc
+
+module _ (d : Device) (s : List ℕ) (j : ℕ) (store : List ℕ) where
+  answer-is : receiverAnswer d s j store ≡ counted (startFinding receiverPlaces d s j store) (receiverPlaces (frameOf d (planOf s)))
+  unfolding receiverAnswer counted after
+  answer-is = refl
+
+  -- from what is found to the answer
+  pub receiver-refused : (g place : ℕ) → startFinding receiverPlaces d s j store ≡ Ground g place → a-count.Refused g place ≡ receiverAnswer d s j store
+  unfolding counted after
+  receiver-refused g place e = sym (answer-is ∙ ap (λ (f : Finding). counted f (receiverPlaces (frameOf d (planOf s)))) e)
+
+  pub receiver-counted : (n : ℕ) → n ≡ receiverPlaces (frameOf d (planOf s)) → startFinding receiverPlaces d s j store ≡ Fine → a-count.Count n ≡ receiverAnswer d s j store
+  unfolding counted after
+  receiver-counted n en e = ap (λ (k : ℕ). a-count.Count k) en ∙ sym (answer-is ∙ ap (λ (f : Finding). counted f (receiverPlaces (frameOf d (planOf s)))) e)
+
+  -- and back
+  answer-fine : (n : ℕ) → a-count.Count n ≡ receiverAnswer d s j store → (startFinding receiverPlaces d s j store ≡ Fine) × (n ≡ receiverPlaces (frameOf d (planOf s)))
+  answer-fine n e = count-is (startFinding receiverPlaces d s j store) n (receiverPlaces (frameOf d (planOf s))) (e ∙ answer-is)
+
+  pub places-fit : (n : ℕ) → a-count.Count n ≡ receiverAnswer d s j store → n ≤ length store
+  places-fit n e =
+      let v = answer-fine n e in
+      omega (arith, v .1, nothing-found receiverPlaces d s j store (v .0) .1)
 
   listen-after : Finding → Listening
-  listen-after = after (listens (a-listen.Started (record { phase = j; row = 0; heard = 0 })) (fillerStore (frameOf d (planOf s)) store)) (λ n place. listens (a-listen.Refused n place) store)
+  listen-after = after (listens (a-listen.Started (record { phase = j; heard = 0 })) (fillerStore (frameOf d (planOf s)) store)) (λ n place. listens (a-listen.Refused n place) store)
 
-  listen-is : listen-after (grounds1to15 d s else startGrounds (frameOf d (planOf s)) j store) ≡ listenStep d s j store
-  unfolding listenStep frameListen listen-after after
-  listen-is = after-else _ _ (grounds1to15 d s) (startGrounds (frameOf d (planOf s)) j store)
+  listen-is : listen-after (startFinding receiverPlaces d s j store) ≡ listenStep d s j store
+  unfolding listenStep frameListen startFinding listen-after after
+  listen-is = after-else _ _ (grounds1to15 d s) (startGrounds (frameOf d (planOf s)) (receiverPlaces (frameOf d (planOf s))) j store)
 
-  pub listen-refused : (g place : ℕ) → Refused g place ≡ startVerdict d s j store → listens (a-listen.Refused g place) store ≡ listenStep d s j store
+  pub listen-refused : (g place : ℕ) → a-count.Refused g place ≡ receiverAnswer d s j store → listens (a-listen.Refused g place) store ≡ listenStep d s j store
   unfolding listen-after after
-  listen-refused g place e = sym (ap listen-after (refused g place e)) ∙ listen-is
+  listen-refused g place e =
+      sym (ap listen-after (ground-is (startFinding receiverPlaces d s j store) g place (receiverPlaces (frameOf d (planOf s))) (e ∙ answer-is))) ∙ listen-is
 
-  pub listening : (n : ℕ) → Accepted n ≡ startVerdict d s j store → (st : List ℕ) → st ≡ fillerStore (frameOf d (planOf s)) store
-      → listens (a-listen.Started (record { phase = j; row = 0; heard = 0 })) st ≡ listenStep d s j store
+  pub listening : (n : ℕ) → a-count.Count n ≡ receiverAnswer d s j store → (st : List ℕ) → st ≡ sets store 0 (replicate n filler)
+      → listens (a-listen.Started (record { phase = j; heard = 0 })) st ≡ listenStep d s j store
   unfolding listen-after after
-  listening n e st made = ap (listens (a-listen.Started (record { phase = j; row = 0; heard = 0 }))) made ∙ sym (ap listen-after (accepted n e .0)) ∙ listen-is
+  listening n e st made =
+      let v = answer-fine n e in
+      ap (listens (a-listen.Started (record { phase = j; heard = 0 }))) (made ∙ all-filler (frameOf d (planOf s)) store n (v .1)) ∙ sym (ap listen-after (v .0)) ∙ listen-is
 
-  -- ---- what an emitter's rows are made from, once the first n places hold the subcarriers of the n cells
+-- ---- what an emitter's places are made from, once the first n places hold the subcarriers of the n cells
 
-  made-from : (n : ℕ) (marks kc : List ℕ) → Fits d → d .depthMax ≤ phases → StartInOrder d s j store n → Studied d s marks → length kc ≡ n
-      → ((p : ℕ) → p < n → getD kc p 0 ≡ spot (frameOf d (planOf s)) p) → Spotted d s kc
-  made-from n marks kc fits deep a w en made =
-      let depth = depth-in d s (a .fine) in
-      record {
-        fits = fits;
-        long = a .long;
-        plcHigh = w .plcHigh;
-        deep = depth .0;
-        shallow = omega (arith, depth .1, deep);
-        few = omega (arith, en, few d s n fits (a .all));
-        all = en ∙ a .all;
-        spots = λ p h. made p (omega (arith, h, en));
-      }
+module _ (d : Device) (s : List ℕ) (j n : ℕ) (fits : Fits d) (deep : d .depthMax ≤ phases) (a : StartInOrder d s j n) where
+  -- the depth
+  pub depth-small : (0 < planOf s .depth) × (planOf s .depth ≤ phases)
+  depth-small = let depth = depth-in d s (a .fine) in (depth .0, omega (arith, depth .1, deep))
 
-  pub spotted : (n : ℕ) (marks kc rest : List ℕ) → Fits d → d .depthMax ≤ phases → StartInOrder d s j store n → Studied d s marks → length kc ≡ n
-      → ((p : ℕ) → p < n → getD kc p 0 ≡ spot (frameOf d (planOf s)) p) → Spotted d s (take n (kc ++ rest))
-  spotted n marks kc rest fits deep a w en made = subst (Spotted d s) (sym (take-at kc rest n en)) (made-from n marks kc fits deep a w en made)
+  made-from : (marks kc : List ℕ) → Studied d s marks → length kc ≡ n → ((p : ℕ) → p < n → getD kc p 0 ≡ spot (frameOf d (planOf s)) p) → Spotted d s kc
+  made-from marks kc w en made = record {
+    fits = fits;
+    long = a .long;
+    plcHigh = w .plcHigh;
+    deep = depth-small .0;
+    shallow = depth-small .1;
+    few = omega (arith, en, few d s n fits (a .all));
+    all = en ∙ a .all;
+    spots = λ p h. made p (omega (arith, h, en));
+  }
+
+  pub spotted : (marks kc rest : List ℕ) → Studied d s marks → length kc ≡ n → ((p : ℕ) → p < n → getD kc p 0 ≡ spot (frameOf d (planOf s)) p) → Spotted d s (take n (kc ++ rest))
+  spotted marks kc rest w en made = subst (Spotted d s) (sym (take-at kc rest n en)) (made-from marks kc w en made)

@@ -13,7 +13,7 @@ use Rattle.rules.specs.declared.CountAnswer.{CountAnswer}
 use Rattle.rules.specs.declared.CountAnswer.the-variants.{Count, Refused}
 use Rattle.rules.specs.Grounds.{grounds1to15, _else_}
 use Rattle.rules.specs.Frame.{Frame, frameOf, cells, carrier, spot, held, dataCount}
-use Rattle.rules.specs.Steps.{stateGround16, ground17}
+use Rattle.rules.specs.Steps.{ground16, ground17}
 use Rattle.verdicts.specs.Studied.{Studied}
 
 -- the device fits, no ground of 1 to 15 refuses the plan, its depth is 1 to 128, n is N_I, and m holds the marks
@@ -25,9 +25,9 @@ pub record Ready (d : Device) (s : List ℕ) (n : ℕ) (m : List ℕ) : Type 0 w
   pub all : n ≡ cells (frameOf d (planOf s))
   pub studied : Studied d s m
 
--- the first of grounds 16 and 17 of what a step is given, or N_D at phase j
+-- the first of grounds 16 and 17 of what a step is given, whose store needs so many places, or N_D at phase j
 unfoldable pub readyAnswer : Frame → ℕ → ℕ → List ℕ → List ℕ → ℕ → CountAnswer
-readyAnswer F phase row s y j = elim (stateGround16 F phase row else ground17 F s y) [ Fine ↦ Count (dataCount F j) | Ground n place ↦ Refused n place ]
+readyAnswer F phase places s y j = elim (ground16 F phase else ground17 F places s y) [ Fine ↦ Count (dataCount F j) | Ground n place ↦ Refused n place ]
 
 -- what a step has made of a plan for the input symbol at phase j: the subcarriers by rank and by cell, and the flags of the placeholders
 pub record Made (F : Frame) (j : ℕ) (car kc flag : List ℕ) : Type 0 where

@@ -1,5 +1,5 @@
 // What a step of the emitter and one of the receiver share once the plan is accepted: the tests of the numbers and the lent cells, and
-// the phase and row of the next step. specs/Ready says what is known of an accepted plan.
+// the phase of the next step. specs/Ready says what is known of an accepted plan.
 ghost use mathlib.Core.Path.{_≡_};
 ghost use mathlib.Core.List.{List};
 ghost use Prim.Native.Nat.{ℕ, _+_, _%_, _≤_, _<_};
@@ -7,9 +7,8 @@ ghost use lib.ListN.{length};
 ghost use Rattle.rules.specs.Device.{phases};
 ghost use Rattle.rules.specs.Plan.{planOf};
 ghost use Rattle.rules.specs.Grounds.{_else_};
-ghost use Rattle.rules.specs.Frame.{frameOf, cells};
-ghost use Rattle.rules.specs.Store.{nextRow};
-ghost use Rattle.rules.specs.Steps.{stateGround16, ground17};
+ghost use Rattle.rules.specs.Frame.{frameOf};
+ghost use Rattle.rules.specs.Steps.{ground16, ground17};
 ghost use Rattle.steps.specs.Ready.{Ready, readyAnswer, MadeIf};
 use rules::CountAnswer;
 use rules::Device;
@@ -18,28 +17,22 @@ use rules::Finding;
 // Phases are 0 to 127.
 const PHASES: usize = 128;
 
-// Grounds 16 and 17 of the phase, row, store and symbol that a step is given, for depth m and ni cells: the store has so many places, the
-// symbol so many cells.
+// Grounds 16 and 17 of the phase, store and symbol that a step is given: the store needs `need` places and has so many, the symbol has so
+// many cells.
 fn lent_grounds(
     d: Device,
     plan: &[u8],
-    m: usize,
-    ni: usize,
     phase: u32,
-    row: u32,
+    need: usize,
     places: usize,
     width: usize,
 ) -> Finding
-    requires { ⌜ (m ≡ planOf (now plan) .depth) × (ni ≡ cells (frameOf d (planOf (now plan)))) × (m < 65536) × (ni ≤ 4096) ⌝ }
-    ensures { λ r. ⌜ ((s y : List ℕ) → length s ≡ places → length y ≡ width → r ≡ (stateGround16 (frameOf d (planOf (now (plan .entry)))) phase row else ground17 (frameOf d (planOf (now (plan .entry)))) s y)) ⌝ }
+    ensures { λ r. ⌜ ((s y : List ℕ) → length s ≡ places → length y ≡ width → r ≡ (ground16 (frameOf d (planOf (now (plan .entry)))) phase else ground17 (frameOf d (planOf (now (plan .entry)))) need s y)) ⌝ }
 {
     if PHASES <= phase as usize {
         return Finding::Ground(16, 0);
     }
-    if m <= row as usize {
-        return Finding::Ground(16, 0);
-    }
-    if places < m * ni {
+    if places < need {
         return Finding::Ground(17, 0);
     }
     if width != d.subcarriers {
@@ -48,7 +41,7 @@ fn lent_grounds(
     Finding::Fine
 }
 
-// Grounds 16 and 17 under an accepted plan and, where neither holds, what a step makes of the plan for the input symbol at phase j: the
+// Grounds 16 and 17 under an accepted plan, for a store that needs `need` places, and, where neither holds, what a step makes of the plan for the input symbol at phase j: the
 // subcarriers by rank (car) and by cell (kc), the flags of the placeholders, and N_D.
 pub fn ready(
     d: Device,
@@ -56,7 +49,7 @@ pub fn ready(
     marks: &[u16; 4096],
     m: usize,
     phase: u32,
-    row: u32,
+    need: usize,
     places: usize,
     width: usize,
     j: usize,
@@ -64,20 +57,11 @@ pub fn ready(
     kc: &mut [u16],
     flag: &mut [u8],
 ) -> CountAnswer
-    requires { ⌜ Ready d (now plan) (length (now kc)) (now marks) × (m ≡ planOf (now plan) .depth) × (m < 65536) × (phase < phases → j ≤ 4096) × (length (now car) ≡ 4096) × (length (now flag) ≡ length (now kc)) ⌝ }
-    ensures answer { λ r. ⌜ ((s y : List ℕ) → length s ≡ places → length y ≡ width → r ≡ readyAnswer (frameOf d (planOf (now (plan .entry)))) phase row s y j) ⌝ }
+    requires { ⌜ Ready d (now plan) (length (now kc)) (now marks) × (m ≡ planOf (now plan) .depth) × (phase < phases → j ≤ 4096) × (length (now car) ≡ 4096) × (length (now flag) ≡ length (now kc)) ⌝ }
+    ensures answer { λ r. ⌜ ((s y : List ℕ) → length s ≡ places → length y ≡ width → r ≡ readyAnswer (frameOf d (planOf (now (plan .entry)))) phase need s y j) ⌝ }
     ensures made { λ r. ⌜ MadeIf r (frameOf d (planOf (now (plan .entry)))) j (now (car .exit)) (now (kc .exit)) (now (flag .exit)) ⌝ }
 {
-    if let Finding::Ground(g, place) = lent_grounds(
-        d,
-        plan,
-        m,
-        kc.len(),
-        phase,
-        row,
-        places,
-        width,
-    ) {
+    if let Finding::Ground(g, place) = lent_grounds(d, plan, phase, need, places, width) {
         return CountAnswer::Refused(g, place);
     }
     let nd = spots::prepare(d, plan, marks, m, j, car, kc, flag);
@@ -90,13 +74,4 @@ pub fn next_phase(phase: u32) -> u32
     ensures { λ r. ⌜ r ≡ (phase + 1) % phases ⌝ }
 {
     (phase + 1) % 128
-}
-
-// The row of the next step.
-pub fn next_row(row: u32, m: usize) -> u32
-    requires { ⌜ (row < m) × (m ≤ 4096) ⌝ }
-    ensures { λ r. ⌜ r ≡ nextRow m row ⌝ }
-{
-    let next = delay::next_row(row as usize, m);
-    next as u32
 }

@@ -20,7 +20,7 @@ refusalNumbers n p = 2 ∷ n ∷ p ∷ []
 
 -- a receiver's state
 abbrev pub stateNumbers : ReceiverState → List ℕ
-stateNumbers v = v .phase ∷ v .row ∷ v .heard ∷ []
+stateNumbers v = v .phase ∷ v .heard ∷ []
 
 -- N_D
 abbrev pub countNumbers : CountAnswer → List ℕ
@@ -29,7 +29,7 @@ countNumbers (a-count.Refused n p) = refusalNumbers n p
 
 -- a fresh emitter's state
 abbrev pub startNumbers : StartAnswer → List ℕ
-startNumbers (a-start.Started e) = 1 ∷ e .phase ∷ e .row ∷ []
+startNumbers (a-start.Started e) = 1 ∷ e .phase ∷ []
 startNumbers (a-start.Refused n p) = refusalNumbers n p
 
 -- a fresh receiver's state
@@ -39,8 +39,8 @@ listenNumbers (a-listen.Refused n p) = refusalNumbers n p
 
 -- the emitter's next state, or the refusal and the state as it was given
 abbrev pub sendNumbers : SendAnswer → List ℕ
-sendNumbers (a-send.Sent e) = 1 ∷ e .phase ∷ e .row ∷ []
-sendNumbers (a-send.Refused n p e) = refusalNumbers n p ++ (e .phase ∷ e .row ∷ [])
+sendNumbers (a-send.Sent e) = 1 ∷ e .phase ∷ []
+sendNumbers (a-send.Refused n p e) = refusalNumbers n p ++ (e .phase ∷ [])
 
 -- the receiver's next state, before it the count of data cells handed out; or the refusal and the state as it was given
 abbrev pub receiveNumbers : ReceiveAnswer → List ℕ

@@ -19,6 +19,13 @@ pub fn mixed(sum: u32, x: u32) -> u32
     (((sum as u64) * 48271 + x as u64) % 2147483647) as u32
 }
 
+// The checksum with two numbers more.
+fn mixed_two(sum: u32, a: u32, b: u32) -> u32
+    ensures { λ r. ⌜ r ≡ mixAll sum (a ∷ b ∷ []) ⌝ }
+{
+    mixed(mixed(sum, a), b)
+}
+
 // The checksum with three numbers more.
 fn mixed3(sum: u32, a: u32, b: u32, c: u32) -> u32
     ensures { λ r. ⌜ r ≡ mixAll sum (a ∷ b ∷ c ∷ []) ⌝ }
@@ -54,7 +61,7 @@ pub fn mixed_cells(sum: u32, cells: &[u16], n: usize) -> u32
 fn mixed_state(sum: u32, state: ReceiverState) -> u32
     ensures { λ r. ⌜ r ≡ mixAll sum (stateNumbers state) ⌝ }
 {
-    mixed3(sum, state.phase, state.row, state.heard)
+    mixed_two(sum, state.phase, state.heard)
 }
 
 // The checksum with the answer about N_D more.
@@ -72,7 +79,7 @@ pub fn mixed_start(sum: u32, answer: StartAnswer) -> u32
     ensures { λ r. ⌜ r ≡ mixAll sum (startNumbers answer) ⌝ }
 {
     match answer {
-        StartAnswer::Started(state) => mixed3(sum, 1, state.phase, state.row),
+        StartAnswer::Started(state) => mixed_two(sum, 1, state.phase),
         StartAnswer::Refused(number, place) => mixed3(sum, 2, number, place),
     }
 }
@@ -92,11 +99,10 @@ pub fn mixed_send(sum: u32, answer: SendAnswer) -> u32
     ensures { λ r. ⌜ r ≡ mixAll sum (sendNumbers answer) ⌝ }
 {
     match answer {
-        SendAnswer::Sent(state) => mixed3(sum, 1, state.phase, state.row),
-        SendAnswer::Refused(number, place, state) => mixed(
-            mixed(mixed3(sum, 2, number, place), state.phase),
-            state.row,
-        ),
+        SendAnswer::Sent(state) => mixed_two(sum, 1, state.phase),
+        SendAnswer::Refused(number, place, state) => {
+            mixed(mixed3(sum, 2, number, place), state.phase)
+        }
     }
 }
 

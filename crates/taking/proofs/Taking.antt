@@ -1,67 +1,55 @@
--- The data taken out of an input symbol cell after cell, and its single turns. Assumes nothing.
+-- The data taken out of an input symbol: the number at each place of the buffer, one by one and by the block. Assumes nothing.
 use Prim.Native.Nat.{ℕ, _+_, _≤_, _<_}
-use mathlib.Core.Path.{_≡_, refl, ap, _∙_}
+use mathlib.Core.Path.{_≡_, sym, ap, _∙_}
 use mathlib.Core.Bool.{true}
 use mathlib.Core.List.{List}
-use native.Mathlib.Numerals.{add-one}
-use native.Mathlib.Nat.{zero-add}
 use native.Mathlib.Omega.{arith}
-use lib.ListN.{length, getD, set, take, length-set}
-use lib.Seq.{sets, take-all}
-use Rattle.counting.specs.Search.{bit, sum, count, isZero}
-use Rattle.counting.proofs.Laws.{count-le, count-lt, count-step}
-use Rattle.counting.proofs.Lists.{length-tabulate, getD-tabulate, sets-snoc}
+use lib.ListN.{length, getD, set, take}
+use lib.Seq.{sets, length-sets}
+use Rattle.counting.specs.Search.{count, select, tabulate, isZero}
+use Rattle.counting.proofs.Laws.{count-lt}
 use Rattle.counting.proofs.Select.{select-count}
-use Rattle.fill.specs.Flags.{takenData}
-use Rattle.fill.proofs.Filling.{zero-yes, zero-no}
+use Rattle.fill.specs.Flags.{allData, takenData}
+use Rattle.fill.proofs.Blocks.{Stored, stored-next, stored-block, stored-all}
+use Rattle.fill.proofs.Filling.{zero-yes, all-data-at, all-data-count, all-data-room}
 
--- the first d data cells, those of the cells below p, stand in the buffer b that was b₀
-pub record Taking (flag x b₀ b : List ℕ) (p d : ℕ) : Type 0 where
-  pub long : length b ≡ length b₀
-  pub used : d ≡ count (isZero flag) p
-  pub stored : b ≡ sets b₀ 0 (take d (takenData flag x))
+-- the data cell that has c others below it
+abbrev pub dataAt : List ℕ → List ℕ → ℕ → ℕ
+dataAt flag x c = getD x (select (isZero flag) (length x) c) 0
 
-pub taking-start : (flag x b : List ℕ) → Taking flag x b b 0 0
-unfolding count sum
-taking-start flag x b = record { long = refl; used = refl; stored = refl }
+-- the first d data cells of x stand in the buffer y that was b
+abbrev pub Taken : List ℕ → List ℕ → List ℕ → ℕ → List ℕ → Type 0
+Taken flag x b d y = Stored b 0 (dataAt flag x) (count (isZero flag) (length x)) d y
 
-length-taken : (flag x : List ℕ) → length (takenData flag x) ≡ count (isZero flag) (length x)
-unfolding takenData
-length-taken flag x = length-tabulate _ (count (isZero flag) (length x))
+module _ (flag x b : List ℕ) (d : ℕ) (y : List ℕ) where
+  pub taken-from : y ≡ sets b 0 (take d (takenData flag x)) → Taken flag x b d y
+  unfolding takenData
+  taken-from e = record { long = ap length e ∙ length-sets b 0 (take d (takenData flag x)); list = e }
 
--- a data cell stands among those taken at the count of data cells below it
-taken-at : (flag x : List ℕ) (p : ℕ) → p < length x → isZero flag p ≡ true → getD (takenData flag x) (count (isZero flag) p) 0 ≡ getD x p 0
-unfolding takenData
-taken-at flag x p h z =
-    getD-tabulate _ (count (isZero flag) (length x)) 0 (count (isZero flag) p) (count-lt (isZero flag) p (length x) h z)
-    ∙ ap (λ (q : ℕ). getD x q 0) (select-count (isZero flag) (length x) p h z)
+  pub taken-list : Taken flag x b d y → y ≡ sets b 0 (take d (takenData flag x))
+  unfolding takenData
+  taken-list s = s .list
 
-module _ (flag x b₀ b : List ℕ) (p d : ℕ) (t : Taking flag x b₀ b p d) where
-  -- a data cell: there is room for it, and no more were taken than cells passed
-  pub taking-room : p < length x → getD flag p 0 ≡ 0 → count (isZero flag) (length x) ≤ length b₀ → (d < length b) × (d ≤ p)
-  taking-room h z m = (
-    omega (arith, t .used, t .long, count-lt (isZero flag) p (length x) h (zero-yes flag p z)),
-    omega (arith, t .used, count-le (isZero flag) p),
-  )
+  pub taken-all : Taken flag x b d y → d ≡ count (isZero flag) (length x) → y ≡ sets b 0 (takenData flag x)
+  unfolding takenData
+  taken-all s e = stored-all b 0 (dataAt flag x) (count (isZero flag) (length x)) d y s (omega arith)
 
-  -- a data cell goes to the next place
-  pub taking-data : (y : List ℕ) (d′ : ℕ) → p < length x → getD flag p 0 ≡ 0 → y ≡ set b d (getD x p 0) → d′ ≡ d + 1 → Taking flag x b₀ y (p + 1) d′
-  taking-data y d′ h z ey ed =
-      let free = zero-yes flag p z in
-      let v : getD (takenData flag x) d 0 ≡ getD x p 0 = ap (λ (c : ℕ). getD (takenData flag x) c 0) (t .used) ∙ taken-at flag x p h free in
-      let low : d < length (takenData flag x) = omega (arith, length-taken flag x, t .used, count-lt (isZero flag) p (length x) h free) in record {
-        long = ap length ey ∙ length-set b d (getD x p 0) ∙ t .long;
-        used = omega (arith, ed, t .used, count-step (isZero flag) p, ap bit free);
-        stored = rw (ey, ed, t .stored, ← v, add-one) (rw (zero-add d) at (sets-snoc b₀ 0 (takenData flag x) d low));
-      }
+-- a data cell with d others below it
+data-at : (flag x : List ℕ) (p d : ℕ) → d ≡ count (isZero flag) p → p < length x → isZero flag p ≡ true → getD x p 0 ≡ dataAt flag x d
+data-at flag x p d e h z = ap (λ (q : ℕ). getD x q 0) (sym (select-count (isZero flag) (length x) p h z) ∙ ap (select (isZero flag) (length x)) (sym e))
 
-  -- a placeholder is passed
-  pub taking-held : (y : List ℕ) (d′ : ℕ) → (getD flag p 0 ≡ 0 → ⊥) → y ≡ b → d′ ≡ d → Taking flag x b₀ y (p + 1) d′
-  taking-held y d′ z ey ed = record {
-    long = ap length ey ∙ t .long;
-    used = omega (arith, ed, t .used, count-step (isZero flag) p, ap bit (zero-no flag p z));
-    stored = rw (ey, ed) (t .stored);
-  }
+-- it goes to the next place
+pub taken-next : (flag x b : List ℕ) (p d : ℕ) (y : List ℕ) → Taken flag x b d y → d ≡ count (isZero flag) p → p < length x → getD flag p 0 ≡ 0
+    → (d′ : ℕ) (z : List ℕ) → z ≡ set y d (getD x p 0) → d′ ≡ d + 1 → Taken flag x b d′ z
+taken-next flag x b p d y s e h free d′ z ez ed =
+    let yes = zero-yes flag p free in
+    rw ed (stored-next b 0 (dataAt flag x) _ d y s d (getD x p 0) z (omega (arith, e, count-lt (isZero flag) p (length x) h yes)) (omega arith) (data-at flag x p d e h yes) ez)
 
-  pub taking-all : p ≡ length x → b ≡ sets b₀ 0 (takenData flag x)
-  taking-all e = t .stored ∙ ap (sets b₀ 0) (take-all d (takenData flag x) (omega (arith, length-taken flag x, t .used, ap (count (isZero flag)) e)))
+-- a block of k data cells goes to the next places
+pub taken-block : (flag x b : List ℕ) (p k d : ℕ) (y : List ℕ) → Taken flag x b d y → d ≡ count (isZero flag) p → p + k ≤ length x → allData flag p k ≡ true
+    → (d′ : ℕ) (z : List ℕ) → z ≡ sets y d (tabulate (λ i. getD x (p + i) 0) k) → d′ ≡ d + k → Taken flag x b d′ z
+taken-block flag x b p k d y s e h all d′ z ez ed =
+    rw ed
+    (stored-block b 0 (dataAt flag x) _ d y s (λ i. getD x (p + i) 0) k d z (all-data-room flag p k d e all (length x) _ h (omega arith)) (omega arith)
+    (λ i l. data-at flag x (p + i) (d + i) (omega (arith, e, all-data-count flag p k all i (omega arith))) (omega arith) (all-data-at flag p k all i l))
+    ez)

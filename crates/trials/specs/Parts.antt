@@ -1,5 +1,5 @@
 -- What the entries answer and leave when they are lent only the first cells: past those nothing changes. Assumes nothing.
-use Prim.Native.Nat.{ℕ, _*_}
+use Prim.Native.Nat.{ℕ}
 use mathlib.Core.Path.{_≡_}
 use mathlib.Core.List.{List, _++_}
 use lib.ListN.{take, drop}
@@ -19,10 +19,10 @@ abbrev pub counted : CountAnswer → ℕ
 counted (a-count.Count n) = n
 counted (a-count.Refused n p) = 0
 
--- M times N_I of an accepted plan, 0 of a refused one
+-- so many places under an accepted plan, 0 under a refused one
 abbrev pub needed : ℕ → Verdict → ℕ
-needed m (a-verdict.Accepted n) = m * n
-needed m (a-verdict.Refused n p) = 0
+needed places (a-verdict.Accepted n) = places
+needed places (a-verdict.Refused n p) = 0
 
 -- the first r cells are the first n of them, or all
 pub record Front (r n : ℕ) (cells : List ℕ) : Type 0 where
@@ -38,8 +38,8 @@ abbrev pub sendPart : List ℕ → Sending → List ℕ → List ℕ → List �
 sendPart plan g store cells symbol =
     sentOver (g .store) (g .symbol) store symbol
     (pick (g .flush)
-    (flushStep khz50 plan (record { phase = g .phase; row = g .row }) (take (g .store) store) (take (g .symbol) symbol))
-    (emitStep khz50 plan (record { phase = g .phase; row = g .row }) (take (g .store) store) (take (g .count) cells) (take (g .symbol) symbol)))
+    (flushStep khz50 plan (record { phase = g .phase }) (take (g .store) store) (take (g .symbol) symbol))
+    (emitStep khz50 plan (record { phase = g .phase }) (take (g .store) store) (take (g .count) cells) (take (g .symbol) symbol)))
 
 -- a step on the first n cells of store and the first b of the data buffer, with what stands after them
 abbrev pub heardOver : ℕ → ℕ → List ℕ → List ℕ → Heard → Heard
@@ -49,7 +49,7 @@ heardOver n b store buffer s = hears (s .answer) (s .store ++ drop n store) (s .
 abbrev pub receivePart : List ℕ → Receiving → List ℕ → List ℕ → List ℕ → Heard
 receivePart plan g store symbol buffer =
     heardOver (g .store) (g .buffer) store buffer
-    (receiveStep khz50 plan (record { phase = g .phase; row = g .row; heard = g .heard }) (take (g .store) store) (take (g .symbol) symbol) (take (g .buffer) buffer))
+    (receiveStep khz50 plan (record { phase = g .phase; heard = g .heard }) (take (g .store) store) (take (g .symbol) symbol) (take (g .buffer) buffer))
 
 -- a fresh emitter in the first n cells, with what stands after them
 abbrev pub startPart : List ℕ → ℕ → ℕ → List ℕ → Starting

@@ -1,10 +1,12 @@
 // Steps that are given numbers: the entries of both ends of the line over the first cells of what they are lent. With these a program tries
 // stores, symbols and data buffers that are too short.
 ghost use mathlib.Core.Path.{_≡_};
-ghost use lib.ListN.{getD};
 ghost use Rattle.io.specs.Counts.{Counts};
 ghost use Rattle.rules.specs.Device.{khz50};
+ghost use Rattle.rules.specs.Plan.{planOf};
 ghost use Rattle.rules.specs.Grounds.{verdict};
+ghost use Rattle.rules.specs.Frame.{frameOf};
+ghost use Rattle.rules.specs.Store.{emitterPlaces, receiverPlaces};
 ghost use Rattle.rules.specs.Steps.{leaves, starts, dataCountAnswer};
 ghost use Rattle.rules.specs.Receive.{hears, listens};
 ghost use Rattle.trials.specs.Parts.{Front, counted, needed, sendPart, receivePart, startPart, listenPart};
@@ -21,7 +23,6 @@ use rules::Verdict;
 pub struct Sending {
     pub flush: bool,
     pub phase: u32,
-    pub row: u32,
     pub count: usize,
     pub store: usize,
     pub symbol: usize,
@@ -30,7 +31,6 @@ pub struct Sending {
 // What a receive is given: the state, and how many cells of store, symbol and data buffer.
 pub struct Receiving {
     pub phase: u32,
-    pub row: u32,
     pub heard: u32,
     pub store: usize,
     pub symbol: usize,
@@ -58,12 +58,22 @@ pub fn data_count(plan: &[u8], phase: u32) -> usize
     }
 }
 
-// The cells of a store: M times N_I of an accepted plan, 0 of another.
-pub fn need_of(plan: &[u8]) -> usize
-    ensures { λ r. ⌜ r ≡ needed (getD (now (plan .entry)) 7 0) (verdict khz50 (now (plan .entry))) ⌝ }
+// The places that an emitter's store needs under an accepted plan, 0 under another.
+pub fn emitter_need(plan: &[u8]) -> usize
+    ensures { λ r. ⌜ r ≡ needed (emitterPlaces (frameOf khz50 (planOf (now (plan .entry))))) (verdict khz50 (now (plan .entry))) ⌝ }
 {
     match judge::judge(plan) {
-        Verdict::Accepted(n) => (samples::depth_of(plan) as usize) * (n as usize),
+        Verdict::Accepted(n) => places::emitter_places(records::number_at(plan, 6), n as usize),
+        Verdict::Refused(_, _) => 0,
+    }
+}
+
+// The places that a receiver's store needs under an accepted plan, 0 under another.
+pub fn receiver_need(plan: &[u8]) -> usize
+    ensures { λ r. ⌜ r ≡ needed (receiverPlaces (frameOf khz50 (planOf (now (plan .entry))))) (verdict khz50 (now (plan .entry))) ⌝ }
+{
+    match judge::judge(plan) {
+        Verdict::Accepted(n) => places::receiver_places(records::number_at(plan, 6), n as usize),
         Verdict::Refused(_, _) => 0,
     }
 }
@@ -78,20 +88,17 @@ pub fn send(
 ) -> SendAnswer
     ensures { λ r. ⌜ leaves r (now (store .exit)) (now (symbol .exit)) ≡ sendPart (now (plan .entry)) given (now (store .entry)) (now (cells .entry)) (now (symbol .entry)) ⌝ }
 {
-    let state = EmitterState {
-        phase: given.phase,
-        row: given.row,
-    };
-    let rows = at_most(given.store, store);
+    let state = EmitterState { phase: given.phase };
+    let places = at_most(given.store, store);
     let width = at_most(given.symbol, symbol);
     if given.flush {
-        return emitter::flush(plan, state, &mut store[..rows], &mut symbol[..width]);
+        return emitter::flush(plan, state, &mut store[..places], &mut symbol[..width]);
     }
     let n = at_most(given.count, cells);
     emitter::emit(
         plan,
         state,
-        &mut store[..rows],
+        &mut store[..places],
         &cells[..n],
         &mut symbol[..width],
     )
@@ -109,16 +116,15 @@ pub fn receive(
 {
     let state = ReceiverState {
         phase: given.phase,
-        row: given.row,
         heard: given.heard,
     };
-    let rows = at_most(given.store, store);
+    let places = at_most(given.store, store);
     let width = at_most(given.symbol, symbol);
     let room = at_most(given.buffer, buffer);
     receiver::receive(
         plan,
         state,
-        &mut store[..rows],
+        &mut store[..places],
         &symbol[..width],
         &mut buffer[..room],
     )
@@ -128,14 +134,14 @@ pub fn receive(
 pub fn fresh_emitter(plan: &[u8], phase: u32, n: usize, store: &mut [u16]) -> StartAnswer
     ensures { λ r. ⌜ starts r (now (store .exit)) ≡ startPart (now (plan .entry)) phase n (now (store .entry)) ⌝ }
 {
-    let rows = at_most(n, store);
-    fresh::fresh_emitter(plan, phase, &mut store[..rows])
+    let places = at_most(n, store);
+    fresh::fresh_emitter(plan, phase, &mut store[..places])
 }
 
 // A fresh receiver in the first n cells of the store.
 pub fn fresh_receiver(plan: &[u8], phase: u32, n: usize, store: &mut [u16]) -> ListenAnswer
     ensures { λ r. ⌜ listens r (now (store .exit)) ≡ listenPart (now (plan .entry)) phase n (now (store .entry)) ⌝ }
 {
-    let rows = at_most(n, store);
-    fresh::fresh_receiver(plan, phase, &mut store[..rows])
+    let places = at_most(n, store);
+    fresh::fresh_receiver(plan, phase, &mut store[..places])
 }

@@ -20,18 +20,15 @@ put-four-requires-3 c κs = search needs
 put-four-requires-4 : tie.Need-put-four-requires-4
 put-four-requires-4 c κs = search needs
 
-put-four-requires-5 : tie.Need-put-four-requires-5
-put-four-requires-5 c κs = search needs
-
 same-length : tie.Need-same-length
 same-length c = search needs
 
 returns : tie.Need-returns
 unfolding written layout four
 returns c =
-    let t = c .before .before .before .before .before .before .before .before .before .before .before .before .before .before .before .before .before .before .before .before .before .args .t in
+    let t = c .before .before .before .before .before .before .before .before .before .before .before .before .before .before .before .before .before .args .t in
     let at : ℕ → ℕ → List ℕ → List ℕ = λ i x y. sets y i (four x) in
-    (refl, c .before .before .put-four5 .ensures ∙ ap (at 16 (t .value)) (c .before .before .before .before .before .before .put-four4 .ensures ∙ ap (at 12 (t .heard)) (c .before .before .before .before .before .before .before .before .before .before .put-four3 .ensures ∙ ap (at 8 (t .row)) (c .before .before .before .before .before .before .before .before .before .before .before .before .before .before .put-four2 .ensures ∙ ap (at 4 (t .phase)) (c .before .before .before .before .before .before .before .before .before .before .before .before .before .before .before .before .before .before .put-four .ensures)))))
+    (refl, c .before .before .put-four4 .ensures ∙ ap (at 12 (t .value)) (c .before .before .before .before .before .before .put-four3 .ensures ∙ ap (at 8 (t .heard)) (c .before .before .before .before .before .before .before .before .before .before .put-four2 .ensures ∙ ap (at 4 (t .phase)) (c .before .before .before .before .before .before .before .before .before .before .before .before .before .before .put-four .ensures))))
 
 pub tell-spec : {M : Type 1} → statement M
 tell-spec =
@@ -41,6 +38,5 @@ tell-spec =
     put-four-requires-2
     put-four-requires-3
     put-four-requires-4
-    put-four-requires-5
     same-length
     returns)

@@ -6,7 +6,7 @@ use native.Mathlib.Nat.{mod-eq-of-lt, add-mod-right}
 use native.Mathlib.Omega.{arith}
 use lib.ListN.{length, getD, length-set}
 use Rattle.rules.specs.Device.{phases}
-use Rattle.delay.proofs.Stride.{Upto, stride-put}
+use Rattle.counting.proofs.Stride.{Upto, stride-put}
 use Rattle.arrivals.specs.Expected.{scatteredMark, expected}
 use Rattle.arrivals.proofs.Expecting.{expected-in, expected-gap, expected-start}
 use Rattle.arrivals.proofs.scatter.Statement.{statement}

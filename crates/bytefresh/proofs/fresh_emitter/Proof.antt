@@ -12,15 +12,17 @@ use Rattle.rules.specs.declared.Verdict.the-variants.{Accepted}
 use Rattle.rules.specs.Device.{khz50}
 use Rattle.rules.specs.Fits.{Fits}
 use Rattle.rules.specs.Plan.{planOf}
+use Rattle.rules.specs.Frame.{frameOf}
+use Rattle.rules.specs.Store.{emitterPlaces}
 use Rattle.rules.specs.Steps.{startStep}
 use Rattle.rules.proofs.Sizes.{khz50-fits}
 use Rattle.flushes.specs.Spotted.{Spotted}
-use Rattle.startgrounds.specs.Admit.{startVerdict, SpottedIf}
+use Rattle.startgrounds.specs.Admit.{emitterVerdict, SpottedIf}
 use Rattle.startgrounds.proofs.Starts.{few, StartInOrder, admitted, start-refused, started}
 use Rattle.bytecells.specs.Octets.{cellsOf, odd, Whole}
 use Rattle.bytecells.specs.ByteSteps.{startedBytes}
 use Rattle.bytecells.proofs.OctetLaws.{length-cells}
-use Rattle.bytefresh.proofs.ByteStarts.{rows-bytes, start-written, odd-start, even-start}
+use Rattle.bytefresh.proofs.ByteStarts.{places-bytes, start-written, odd-start, even-start}
 use Rattle.bytefresh.proofs.fresh_emitter.Statement.{statement}
 use Rattle.bytefresh.proofs.fresh_emitter.Tie as tie
 
@@ -37,20 +39,22 @@ abbrev device : tie.After-n → Device
 device c = c .before .before .before .before .before .khz50-device .result
 
 -- no ground of 1 to 17 holds
-accepted : (c : tie.After-n) → Accepted (c .n .given .0 .0) ≡ startVerdict (device c) (start c .args .plan .now) (start c .args .phase) (cellsOf (start c .args .store .now))
+accepted : (c : tie.After-n) → Accepted (c .n .given .0 .0) ≡ emitterVerdict (device c) (start c .args .plan .now) (start c .args .phase) (cellsOf (start c .args .store .now))
 accepted c = sym (c .n .given .1) ∙ c .before .before .before .admit-emitter .ensures .0 _ (length-cells (start c .args .store .now))
 
-known : (c : tie.After-n) → StartInOrder (device c) (start c .args .plan .now) (start c .args .phase) (cellsOf (start c .args .store .now)) (c .n .given .0 .0)
+known : (c : tie.After-n)
+    → StartInOrder (device c) (start c .args .plan .now) (start c .args .phase) (c .n .given .0 .0)
+    × (emitterPlaces (frameOf (device c) (planOf (start c .args .plan .now))) ≤ length (cellsOf (start c .args .store .now)))
 known c = admitted _ _ _ _ _ (accepted c)
 
-rows-from : (c : tie.After-n) → Spotted (device c) (start c .args .plan .now) (take (c .n .given .0 .0) (c .before .before .before .admit-emitter .last .1 .1 .1 .1 .0))
-rows-from c =
+places-from : (c : tie.After-n) → Spotted (device c) (start c .args .plan .now) (take (c .n .given .0 .0) (c .before .before .before .admit-emitter .last .1 .1 .1 .1 .0))
+places-from c =
     let w = c .before .before .before .admit-emitter in
     subst (λ (v : Verdict). SpottedIf v (device c) (start c .args .plan .now) (w .last .1 .1 .1 .1 .0)) (c .n .given .1) (w .ensures .1)
 
 -- the cells fit the array
 low : (c : tie.After-n) → c .n .given .0 .0 ≤ length (c .before .before .before .admit-emitter .last .1 .1 .1 .1 .0)
-low c = omega (arith, few (device c) (start c .args .plan .now) _ (rows-from c .fits) (known c .all), c .before .before .before .admit-emitter .kept .1 .1 .1 .1 .0)
+low c = omega (arith, few (device c) (start c .args .plan .now) _ (places-from c .fits) (known c .0 .all), c .before .before .before .admit-emitter .kept .1 .1 .1 .1 .0)
 
 size : (c : tie.After-n) → length (take (c .n .given .0 .0) (c .before .before .before .admit-emitter .last .1 .1 .1 .1 .0)) ≡ c .n .given .0 .0
 size c = length-take-le _ _ (low c)
@@ -89,15 +93,14 @@ cast-ni c = search needs
 array-share-prefix-kc : tie.Need-array-share-prefix-kc
 array-share-prefix-kc c = low (c .before)
 
-slice-aggregate-fresh-rows : tie.Need-slice-aggregate-fresh-rows
-slice-aggregate-fresh-rows c = sym (size (c .before .before))
+slice-aggregate-fresh-places : tie.Need-slice-aggregate-fresh-places
+slice-aggregate-fresh-places c = sym (size (c .before .before))
 
-fresh-rows-requires : tie.Need-fresh-rows-requires
-fresh-rows-requires c κs =
+fresh-places-requires : tie.Need-fresh-places-requires
+fresh-places-requires c κs =
     let k = c .before .before .before in
-    let a = start k .args in
     let whole = even (k .before .before .before .before .before .before) .1 in
-    (rows-from k, known k .inside, whole, rows-bytes (a .store .now) (planOf (a .plan .now) .depth) _ _ _ whole refl (size k) (known k .rows))
+    (places-from k, omega (arith, known k .0 .inside), whole, places-bytes (start k .args .store .now) _ whole (known k .1))
 
 same-length-2 : tie.Need-same-length-2
 same-length-2 c = search needs
@@ -120,7 +123,7 @@ returns-3 c =
     let k = c .before .before .before .before .before .before in
     let a = start k .args in
     let cells = cellsOf (a .store .now) in
-    start-written _ _ _ _ (c .before .before .fresh-rows .ensures) (started _ (a .plan .now) (a .phase) cells _ (accepted k) _ refl)
+    start-written _ _ _ _ (c .before .before .fresh-places .ensures) (started _ (a .plan .now) (a .phase) cells _ (accepted k) _ refl)
     ∙ ap (λ (d : Device). startedBytes (startStep d (a .plan .now) (a .phase) cells)) (k .before .before .before .before .before .khz50-device .ensures)
     ∙ even-start khz50 (a .plan .now) (a .phase) (a .store .now) (even (k .before .before .before .before .before .before) .0)
 
@@ -138,8 +141,8 @@ fresh-emitter-spec =
     enum-known-n
     cast-ni
     array-share-prefix-kc
-    slice-aggregate-fresh-rows
-    fresh-rows-requires
+    slice-aggregate-fresh-places
+    fresh-places-requires
     same-length-2
     returns-2
     same-length-3

@@ -1,16 +1,15 @@
 -- `bytereceiver::receive_whole` meets its contract: refused as the grounds say, or heard, over the cells of the bytes. Assumes nothing.
 use borrow.Author.Needs.{needs}
-use Prim.Native.Nat.{ℕ, _≤_}
+use Prim.Native.Nat.{ℕ}
 use mathlib.Core.Path.{_≡_, refl, sym, ap, _∙_, subst}
 use mathlib.Core.List.{List}
 use native.Mathlib.Omega.{arith}
-use lib.ListN.{length}
 use lib.Seq.{take-all}
 use Rattle.rules.specs.declared.Device.{Device}
 use Rattle.rules.specs.Device.{khz50}
 use Rattle.rules.specs.Fits.{Fits}
 use Rattle.rules.specs.Plan.{planOf}
-use Rattle.rules.specs.Frame.{Frame, frameOf}
+use Rattle.rules.specs.Frame.{frameOf}
 use Rattle.rules.specs.Receive.{Receiver, Arrival, received, hearStep, receiveStep}
 use Rattle.rules.proofs.Sizes.{khz50-fits}
 use Rattle.bytecells.specs.Octets.{cellsOf}

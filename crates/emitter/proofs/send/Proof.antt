@@ -1,6 +1,6 @@
 -- `emitter::send` meets its contract: one law for a refusal, one for an accepted step. Assumes nothing.
 use borrow.Author.Needs.{needs}
-use Prim.Native.Nat.{_*_, _≤_}
+use Prim.Native.Nat.{_≤_}
 use mathlib.Core.Path.{_≡_, refl, sym, ap, _∙_, subst}
 use mathlib.Core.List.{_++_}
 use native.Mathlib.Omega.{arith}
@@ -9,12 +9,13 @@ use lib.Seq.{length-take-le, length-front, take-at, take-length}
 use Rattle.rules.specs.declared.Device.{Device}
 use Rattle.rules.specs.declared.Verdict.{Verdict}
 use Rattle.rules.specs.declared.Verdict.the-variants.{Accepted}
-use Rattle.rules.specs.Device.{khz50}
 use Rattle.rules.specs.Fits.{Fits, capacity}
 use Rattle.rules.specs.Plan.{planOf}
-use Rattle.rules.specs.Frame.{frameOf, cells, lineSymbol}
+use Rattle.rules.specs.Frame.{Frame, frameOf, lineSymbol}
+use Rattle.rules.specs.Store.{emitterPlaces}
 use Rattle.rules.specs.Steps.{Emitter, Send}
 use Rattle.rules.proofs.Sizes.{khz50-fits}
+use Rattle.places.proofs.Sizes.{emitter-places-are}
 use Rattle.steps.proofs.Accepted.{cells-low}
 use Rattle.steps.proofs.Lent.{Lent}
 use Rattle.sending.specs.Sent.{givenBy, at, giving, stepBy}
@@ -29,6 +30,10 @@ emitter g = at (g .args .state) (g .args .store .now)
 
 abbrev asked : tie.Start → Send
 asked g = giving (givenBy (g .args .flushing) (g .args .input .now)) (g .args .symbol .now)
+
+-- the frame of the plan
+abbrev frame : tie.After-khz50-device → Frame
+frame c = frameOf (c .khz50-device .result) (planOf (c .before .before .before .before .before .args .plan .now))
 
 -- what `admit` says of the step under a verdict
 Said : tie.After-admit → Verdict → Type 0
@@ -58,15 +63,15 @@ part : (c : tie.After-n) → length (take (c .n .given .0 .0) (c .before .before
 part c = length-take-le (c .n .given .0 .0) (c .before .before .before .admit .last .1 .1 .1 .1 .1 .1 .1 .1 .1 .1 .0) (omega (arith, low c, size (c .before .before .before)))
 
 -- and stay so
-kept : (c : tie.After-delay) → length (c .delay .last .1 .1 .1 .0) ≡ c .before .before .before .before .before .before .n .given .0 .0
-kept c = c .delay .kept .1 .1 .1 .0 ∙ part (c .before .before .before .before .before .before)
+kept : (c : tie.After-delay) → length (c .delay .last .1 .1 .0) ≡ c .before .before .before .before .before .n .given .0 .0
+kept c = c .delay .kept .1 .1 .0 ∙ part (c .before .before .before .before .before)
 
 -- in an array that is whole again
-front : (c : tie.After-delay) → take (c .before .before .before .before .before .before .n .given .0 .0) (c .delay .last .1 .1 .1 .0 ++ drop (c .before .before .before .before .before .before .n .given .0 .0) (c .before .before .before .before .before .before .before .before .before .admit .last .1 .1 .1 .1 .1 .1 .1 .1 .1 .1 .0)) ≡ c .delay .last .1 .1 .1 .0
-front c = take-at (c .delay .last .1 .1 .1 .0) (drop (c .before .before .before .before .before .before .n .given .0 .0) (c .before .before .before .before .before .before .before .before .before .admit .last .1 .1 .1 .1 .1 .1 .1 .1 .1 .1 .0)) (c .before .before .before .before .before .before .n .given .0 .0) (kept c)
+front : (c : tie.After-delay) → take (c .before .before .before .before .before .n .given .0 .0) (c .delay .last .1 .1 .0 ++ drop (c .before .before .before .before .before .n .given .0 .0) (c .before .before .before .before .before .before .before .before .admit .last .1 .1 .1 .1 .1 .1 .1 .1 .1 .1 .0)) ≡ c .delay .last .1 .1 .0
+front c = take-at (c .delay .last .1 .1 .0) (drop (c .before .before .before .before .before .n .given .0 .0) (c .before .before .before .before .before .before .before .before .admit .last .1 .1 .1 .1 .1 .1 .1 .1 .1 .1 .0)) (c .before .before .before .before .before .n .given .0 .0) (kept c)
 
 -- grounds 16 and 17 are passed, and m is the depth
-lent : (c : tie.After-number-at) → let g = c .before .before .before .before .before .before .before .before .before .before .before .before .before .before in Lent (frameOf (c .before .before .before .before .before .before .before .before .before .khz50-device .result) (planOf (g .args .plan .now))) (g .args .state .phase) (g .args .state .row) (g .args .store .now) (g .args .symbol .now)
+lent : (c : tie.After-number-at) → let g = c .before .before .before .before .before .before .before .before .before .before .before .before .before .before in Lent (frame (c .before .before .before .before .before .before .before .before .before)) (g .args .state .phase) (emitterPlaces (frame (c .before .before .before .before .before .before .before .before .before))) (g .args .store .now) (g .args .symbol .now)
 unfolding Said
 lent c = let g = c .before .before .before .before .before .before .before .before .before .before .before .before .before .before in fit (c .before .before .before .before .before .before .before .before .before .khz50-device .result) (g .args .plan .now) (emitter g) (asked g) (c .before .before .n .given .0 .0) (taken (c .before .before) .0)
 
@@ -98,51 +103,43 @@ number-at-requires : tie.Need-number-at-requires
 unfolding Said
 number-at-requires c κs = omega (arith, taken (c .before) .1 .ready .studied .long)
 
-cast-row : tie.Need-cast-row
-cast-row c = search needs
-
 array-borrow-prefix-x : tie.Need-array-borrow-prefix-x
-array-borrow-prefix-x c = omega (arith, low (c .before .before .before .before), size (c .before .before .before .before .before .before .before))
+array-borrow-prefix-x c = omega (arith, low (c .before .before .before), size (c .before .before .before .before .before .before))
 
 slice-aggregate-delay : tie.Need-slice-aggregate-delay
-slice-aggregate-delay c = sym (part (c .before .before .before .before .before))
+slice-aggregate-delay c = sym (part (c .before .before .before .before))
 
 delay-requires : tie.Need-delay-requires
 unfolding Said frameOf
 delay-requires c κs =
-    let m = deep (c .before .before .before) in
-    let w = lent (c .before .before .before) in
-    let r = taken (c .before .before .before .before .before) .1 .ready in
-    let x = part (c .before .before .before .before .before) in
-    let F = frameOf (c .before .before .before .before .before .before .before .before .before .before .before .before .khz50-device .result) (planOf (c .before .before .before .before .before .before .before .before .before .before .before .before .before .before .before .before .before .args .plan .now)) in
-    let size : c .before .before .before .number-at .result * length (take (c .before .before .before .before .before .n .given .0 .0) (c .before .before .before .before .before .before .before .before .admit .last .1 .1 .1 .1 .1 .1 .1 .1 .1 .1 .0)) ≡ F .depth * cells F = λ i. m i * (x ∙ r .all) i in
-    (omega (arith, m, w .row-in), omega (arith, m, r .shallow), omega (arith, x, low (c .before .before .before .before .before)), omega (arith, size, w .rows-fit))
+    let m = deep (c .before .before) in
+    let r = taken (c .before .before .before .before) .1 .ready in
+    let x = part (c .before .before .before .before) in
+    let need = emitter-places-are (frame (c .before .before .before .before .before .before .before .before .before .before .before)) _ _ m (x ∙ r .all) in
+    (omega (arith, m, r .deep), omega (arith, m, r .shallow), omega (arith, x, low (c .before .before .before .before)), omega (arith, need, lent (c .before .before) .places-fit))
 
 slice-aggregate-place : tie.Need-slice-aggregate-place
 unfolding Said
-slice-aggregate-place c = sym (taken (c .before .before .before .before .before .before .before .before .before .before .before) .1 .whole)
+slice-aggregate-place c = sym (taken (c .before .before .before .before .before .before .before .before .before .before) .1 .whole)
 
 array-share-prefix-x : tie.Need-array-share-prefix-x
 array-share-prefix-x c =
-    omega (arith, low (c .before .before .before .before .before .before .before .before .before .before .before), size (c .before .before .before .before .before .before .before .before .before .before .before .before .before .before), length-front (c .before .before .before .before .before .before .before .before .before .before .before .before .before .before .admit .last .1 .1 .1 .1 .1 .1 .1 .1 .1 .1 .0) (c .before .before .before .before .before .delay .last .1 .1 .1 .0) (c .before .before .before .before .before .before .before .before .before .before .before .n .given .0 .0) (c .before .before .before .before .before .delay .kept .1 .1 .1 .0))
+    omega (arith, low (c .before .before .before .before .before .before .before .before .before .before), size (c .before .before .before .before .before .before .before .before .before .before .before .before .before), length-front (c .before .before .before .before .before .before .before .before .before .before .before .before .before .admit .last .1 .1 .1 .1 .1 .1 .1 .1 .1 .1 .0) (c .before .before .before .before .before .delay .last .1 .1 .0) (c .before .before .before .before .before .before .before .before .before .before .n .given .0 .0) (c .before .before .before .before .before .delay .kept .1 .1 .0))
 
 slice-aggregate-place-2 : tie.Need-slice-aggregate-place-2
-slice-aggregate-place-2 c = sym (ap length (front (c .before .before .before .before .before .before)) ∙ kept (c .before .before .before .before .before .before))
+slice-aggregate-place-2 c = sym (length-take-le _ _ (array-share-prefix-x (c .before)))
 
 place-requires : tie.Need-place-requires
 unfolding Said frameOf
 place-requires c κs =
-    let made = taken (c .before .before .before .before .before .before .before .before .before .before .before .before .before) .1 in
+    let made = taken (c .before .before .before .before .before .before .before .before .before .before .before .before) .1 in
     let r = made .ready in
-    let size = ap length (front (c .before .before .before .before .before .before .before)) ∙ kept (c .before .before .before .before .before .before .before) in
-    (r .fits, r .studied, made .whole, size ∙ r .all, lent (c .before .before .before .before .before .before .before .before .before .before .before) .whole, λ i h. made .ranks i (omega (arith, h, size)))
+    let size = sym (slice-aggregate-place-2 (c .before)) in
+    (r .fits, r .studied, made .whole, size ∙ r .all, lent (c .before .before .before .before .before .before .before .before .before .before) .whole, λ i h. made .ranks i (omega (arith, h, size)))
 
 next-state-requires : tie.Need-next-state-requires
 unfolding Said frameOf
-next-state-requires c κs =
-    let m = deep (c .before .before .before .before .before .before .before .before .before .before .before .before .before .before) in
-    let w = lent (c .before .before .before .before .before .before .before .before .before .before .before .before .before .before) in
-    (w .phase-in, omega (arith, m, w .row-in), omega (arith, m, taken (c .before .before .before .before .before .before .before .before .before .before .before .before .before .before .before .before) .1 .ready .shallow))
+next-state-requires c κs = lent (c .before .before .before .before .before .before .before .before .before .before .before .before .before) .phase-in
 
 returns : tie.Need-returns
 unfolding Said
@@ -162,12 +159,12 @@ same-length-2 c = search needs
 returns-2 : tie.Need-returns-2
 unfolding Said
 returns-2 c =
-    let g = c .before .before .before .before .before .before .before .before .before .before .before .before .before .before .before .before .before .before .before .before .before .before .before .before .before .before .before .before .before in
+    let g = c .before .before .before .before .before .before .before .before .before .before .before .before .before .before .before .before .before .before .before .before .before .before .before .before .before .before .before .before in
     let a = g .args in
-    let d = c .before .before .before .before .before .before .before .before .before .before .before .before .before .before .before .before .before .before .before .before .before .before .before .before .khz50-device in
+    let d = c .before .before .before .before .before .before .before .before .before .before .before .before .before .before .before .before .before .before .before .before .before .before .before .khz50-device in
     let put = c .before .before .before .before .before .before .before .before .before .before .before .delay .ensures in
-    let step = taken (c .before .before .before .before .before .before .before .before .before .before .before .before .before .before .before .before .before) in
-    sent (d .result) (a .plan .now) (emitter g) (asked g) _ (step .0) _ _ _ _ _ _ (deep (c .before .before .before .before .before .before .before .before .before .before .before .before .before .before .before)) (part (c .before .before .before .before .before .before .before .before .before .before .before .before .before .before .before .before .before)) (step .1 .input) (put .0)
+    let step = taken (c .before .before .before .before .before .before .before .before .before .before .before .before .before .before .before .before) in
+    sent (d .result) (a .plan .now) (emitter g) (asked g) _ (step .0) _ _ _ _ _ _ (deep (c .before .before .before .before .before .before .before .before .before .before .before .before .before .before)) (part (c .before .before .before .before .before .before .before .before .before .before .before .before .before .before .before .before)) (step .1 .input) (put .0)
     (c .before .before .before .place .ensures ∙ ap (lineSymbol (frameOf (d .result) (planOf (a .plan .now)))) (front (c .before .before .before .before .before .before .before .before .before .before .before) ∙ put .1)) (c .next-state .ensures)
     ∙ ap (λ (d : Device). stepBy d (a .plan .now) (a .flushing) (a .state) (a .store .now) (a .input .now) (a .symbol .now)) (d .ensures)
 
@@ -182,7 +179,6 @@ send-spec =
     enum-known-n
     cast-ni
     number-at-requires
-    cast-row
     array-borrow-prefix-x
     slice-aggregate-delay
     delay-requires

@@ -1,6 +1,6 @@
--- `fresh::fresh_emitter` meets its contract: refused as the start is, or the rows made. Assumes nothing.
+-- `fresh::fresh_emitter` meets its contract: refused as the start is, or the places made. Assumes nothing.
 use borrow.Author.Needs.{needs}
-use Prim.Native.Nat.{ℕ, _*_, _≤_}
+use Prim.Native.Nat.{_≤_}
 use mathlib.Core.Path.{_≡_, refl, sym, ap, _∙_, subst}
 use native.Mathlib.Omega.{arith}
 use lib.ListN.{length, take}
@@ -10,10 +10,12 @@ use Rattle.rules.specs.declared.Verdict.{Verdict}
 use Rattle.rules.specs.declared.Verdict.the-variants.{Accepted}
 use Rattle.rules.specs.Fits.{Fits}
 use Rattle.rules.specs.Plan.{planOf}
+use Rattle.rules.specs.Frame.{frameOf}
+use Rattle.rules.specs.Store.{emitterPlaces}
 use Rattle.rules.specs.Steps.{startStep}
 use Rattle.rules.proofs.Sizes.{khz50-fits}
 use Rattle.flushes.specs.Spotted.{Spotted}
-use Rattle.startgrounds.specs.Admit.{startVerdict, SpottedIf}
+use Rattle.startgrounds.specs.Admit.{emitterVerdict, SpottedIf}
 use Rattle.startgrounds.proofs.Starts.{few, StartInOrder, admitted, start-refused, started}
 use Rattle.fresh.proofs.fresh_emitter.Statement.{statement}
 use Rattle.fresh.proofs.fresh_emitter.Tie as tie
@@ -25,20 +27,22 @@ abbrev device : tie.After-n → Device
 device c = c .before .before .before .before .before .khz50-device .result
 
 -- no ground of 1 to 17 holds
-accepted : (c : tie.After-n) → Accepted (c .n .given .0 .0) ≡ startVerdict (device c) (start c .args .plan .now) (start c .args .phase) (start c .args .store .now)
+accepted : (c : tie.After-n) → Accepted (c .n .given .0 .0) ≡ emitterVerdict (device c) (start c .args .plan .now) (start c .args .phase) (start c .args .store .now)
 accepted c = sym (c .n .given .1) ∙ c .before .before .before .admit-emitter .ensures .0 _ refl
 
-known : (c : tie.After-n) → StartInOrder (device c) (start c .args .plan .now) (start c .args .phase) (start c .args .store .now) (c .n .given .0 .0)
+known : (c : tie.After-n)
+    → StartInOrder (device c) (start c .args .plan .now) (start c .args .phase) (c .n .given .0 .0)
+    × (emitterPlaces (frameOf (device c) (planOf (start c .args .plan .now))) ≤ length (start c .args .store .now))
 known c = admitted _ _ _ _ _ (accepted c)
 
-rows-from : (c : tie.After-n) → Spotted (device c) (start c .args .plan .now) (take (c .n .given .0 .0) (c .before .before .before .admit-emitter .last .1 .1 .1 .1 .0))
-rows-from c =
+places-from : (c : tie.After-n) → Spotted (device c) (start c .args .plan .now) (take (c .n .given .0 .0) (c .before .before .before .admit-emitter .last .1 .1 .1 .1 .0))
+places-from c =
     let w = c .before .before .before .admit-emitter in
     subst (λ (v : Verdict). SpottedIf v (device c) (start c .args .plan .now) (w .last .1 .1 .1 .1 .0)) (c .n .given .1) (w .ensures .1)
 
 -- the cells fit the array
 low : (c : tie.After-n) → c .n .given .0 .0 ≤ length (c .before .before .before .admit-emitter .last .1 .1 .1 .1 .0)
-low c = omega (arith, few (device c) (start c .args .plan .now) _ (rows-from c .fits) (known c .all), c .before .before .before .admit-emitter .kept .1 .1 .1 .1 .0)
+low c = omega (arith, few (device c) (start c .args .plan .now) _ (places-from c .fits) (known c .0 .all), c .before .before .before .admit-emitter .kept .1 .1 .1 .1 .0)
 
 size : (c : tie.After-n) → length (take (c .n .given .0 .0) (c .before .before .before .admit-emitter .last .1 .1 .1 .1 .0)) ≡ c .n .given .0 .0
 size c = length-take-le _ _ (low c)
@@ -66,14 +70,13 @@ cast-ni c = search needs
 array-share-prefix-kc : tie.Need-array-share-prefix-kc
 array-share-prefix-kc c = low (c .before)
 
-slice-aggregate-fresh-rows : tie.Need-slice-aggregate-fresh-rows
-slice-aggregate-fresh-rows c = sym (size (c .before .before))
+slice-aggregate-fresh-places : tie.Need-slice-aggregate-fresh-places
+slice-aggregate-fresh-places c = sym (size (c .before .before))
 
-fresh-rows-requires : tie.Need-fresh-rows-requires
-fresh-rows-requires c κs =
+fresh-places-requires : tie.Need-fresh-places-requires
+fresh-places-requires c κs =
     let k = c .before .before .before in
-    let a = start k .args in
-    (rows-from k, known k .inside, subst (λ (n : ℕ). planOf (a .plan .now) .depth * n ≤ length (a .store .now)) (sym (size k)) (known k .rows))
+    (places-from k, omega (arith, known k .0 .inside), known k .1)
 
 returns : tie.Need-returns
 returns c =
@@ -89,7 +92,7 @@ returns-2 : tie.Need-returns-2
 returns-2 c =
     let k = c .before .before .before .before .before .before in
     let a = start k .args in
-    started _ (a .plan .now) (a .phase) (a .store .now) _ (accepted k) _ (c .before .before .fresh-rows .ensures)
+    started _ (a .plan .now) (a .phase) (a .store .now) _ (accepted k) _ (c .before .before .fresh-places .ensures)
     ∙ ap (λ (d : Device). startStep d (a .plan .now) (a .phase) (a .store .now)) (k .before .before .before .before .before .khz50-device .ensures)
 
 pub fresh-emitter-spec : {M : Type 1} → statement M
@@ -103,8 +106,8 @@ fresh-emitter-spec =
     enum-known-n
     cast-ni
     array-share-prefix-kc
-    slice-aggregate-fresh-rows
-    fresh-rows-requires
+    slice-aggregate-fresh-places
+    fresh-places-requires
     returns
     same-length
     returns-2)

@@ -1,7 +1,7 @@
 -- `receivegrounds::admit` meets its contract: one law for each return. Assumes nothing.
 use borrow.Author.Needs.{needs}
 use Prim.Native.Nat.{ℕ, _≤_, _<_}
-use mathlib.Core.Path.{_≡_, refl, sym, ap, _∙_, subst}
+use mathlib.Core.Path.{_≡_, sym, ap, _∙_, subst}
 use mathlib.Core.List.{List}
 use native.Mathlib.Omega.{arith}
 use lib.ListN.{length, take, replicate, length-replicate}
@@ -61,7 +61,7 @@ unfolding Counted
 counted c s y es ey = let g = c .before .before .before .before .before .before .before .before .before .before .before .before .before .before .before .before .before .before .before .before in early-count (frame g) (at (g .args .state) s) y _ (sym (c .nd .given .1) ∙ c .before .before .before .before .before .before .ready .ensures .0 s y es ey)
 
 -- what the early grounds leave, whatever is lent
-left : (c : tie.After-nd) → (c .nd .given .0 .0 ≡ outCount (frame (c .before .before .before .before .before .before .before .before .before .before .before .before .before .before .before .before .before .before .before .before)) (c .before .before .before .before .before .before .before .before .before .before .before .before .before .before .before .before .before .before .before .before .args .state)) × (c .before .before .before .before .before .before .before .before .before .before .before .before .before .before .before .before .before .before .before .before .args .state .phase < phases) × (c .before .before .before .before .before .before .before .before .before .before .before .before .before .before .before .before .before .before .before .before .args .state .row < planOf (c .before .before .before .before .before .before .before .before .before .before .before .before .before .before .before .before .before .before .before .before .args .plan .now) .depth) × (c .before .before .before .before .before .before .before .before .before .before .before .before .before .before .before .before .before .before .before .before .args .width ≡ c .before .before .before .before .before .before .before .before .before .before .before .before .before .before .before .before .before .before .before .before .args .d .subcarriers)
+left : (c : tie.After-nd) → (c .nd .given .0 .0 ≡ outCount (frame (c .before .before .before .before .before .before .before .before .before .before .before .before .before .before .before .before .before .before .before .before)) (c .before .before .before .before .before .before .before .before .before .before .before .before .before .before .before .before .before .before .before .before .args .state)) × (c .before .before .before .before .before .before .before .before .before .before .before .before .before .before .before .before .before .before .before .before .args .state .phase < phases) × (c .before .before .before .before .before .before .before .before .before .before .before .before .before .before .before .before .before .before .before .before .args .width ≡ c .before .before .before .before .before .before .before .before .before .before .before .before .before .before .before .before .before .before .before .before .args .d .subcarriers)
 unfolding frameOf Counted
 left c =
     let a = c .before .before .before .before .before .before .before .before .before .before .before .before .before .before .before .before .before .before .before .before .args in
@@ -69,7 +69,7 @@ left c =
     let y : List ℕ = replicate (a .width) 0 in
     let told = counted c s y (length-replicate (a .places) 0) (length-replicate (a .width) 0) in
     let w = early-lent (frame (c .before .before .before .before .before .before .before .before .before .before .before .before .before .before .before .before .before .before .before .before)) (at (a .state) s) y (told .0) in
-    (told .1, w .phase-in, w .row-in, sym (length-replicate {A = ℕ} (a .width) 0) ∙ w .whole)
+    (told .1, w .phase-in, sym (length-replicate {A = ℕ} (a .width) 0) ∙ w .whole)
 
 study-requires : tie.Need-study-requires
 study-requires c κs = search needs
@@ -110,7 +110,7 @@ enum-known-nd : tie.Need-enum-known-nd
 enum-known-nd c = search needs
 
 last-grounds-requires : tie.Need-last-grounds-requires
-last-grounds-requires c κs = let w = left (c .before .before) in (accepted (c .before .before .before .before .before .before .before .before .before .before .before .before .before .before), deep (c .before .before .before .before .before .before .before .before .before .before .before .before), w .0, w .1, omega (arith, w .2, deep (c .before .before .before .before .before .before .before .before .before .before .before .before)), w .3, c .before .before .before .before .before .before .before .before .before .before .before .before .before .before .before .before .before .before .before .before .before .before .pre .2 (w .3))
+last-grounds-requires c κs = let w = left (c .before .before) in (accepted (c .before .before .before .before .before .before .before .before .before .before .before .before .before .before), deep (c .before .before .before .before .before .before .before .before .before .before .before .before), w .0, w .1, w .2, c .before .before .before .before .before .before .before .before .before .before .before .before .before .before .before .before .before .before .before .before .before .before .pre .2 (w .2))
 
 returns : tie.Need-returns
 returns c =
@@ -147,7 +147,7 @@ returns-3 c =
     let n = c .before .before .before .before .before .before .before .before .before .before .before .before .before .before .before in (
       λ s y b es ey eb.
           c .last-grounds .ensures b eb
-          ∙ ap (λ (x : List ℕ). answered (frame g) (a .state) (lateGrounds (frame g) (a .state) (arriving x b))) (ey .read (g .pre .2 (left (c .before .before .before) .3)))
+          ∙ ap (λ (x : List ℕ). answered (frame g) (a .state) (lateGrounds (frame g) (a .state) (arriving x b))) (ey .read (g .pre .2 (left (c .before .before .before) .2)))
           ∙ good-early (a .d) (a .plan .now) (at (a .state) s) (arriving y b) (accepted n .fine) (counted (c .before .before .before) s y es (ey .number) .0),
       λ m k i e.
           prepared-front (frame g) _ _ _ _ _ (ready .ensures .1 _ (c .before .before .before .nd .given .1)),

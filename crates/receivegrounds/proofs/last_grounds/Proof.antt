@@ -33,7 +33,7 @@ unfolding shortBuffer warming frameOf
 said c b eb = let g = c .before .before .before in sym (c .lacks .ensures ∙ (λ i. not (ltb (g .args .state .heard) (g .pre .1 i - 1)) && ltb (sym eb i) (g .pre .2 i)))
 
 lacks-requires : tie.Need-lacks-requires
-lacks-requires c κs = search needs
+lacks-requires c κs = let g = c .before .before in omega (arith, g .pre .1, g .pre .0 .deep)
 
 returns : tie.Need-returns
 returns c b eb = let g = c .before .before .before .before in ap (answered (frame g) (g .args .state)) (bad-buffer (frame g) (g .args .state) (arrival g b) (said (c .before) b eb ∙ c .if1 .taken))
@@ -42,12 +42,12 @@ cast-j : tie.Need-cast-j
 cast-j c = search needs
 
 slice-aggregate-wrong-cell : tie.Need-slice-aggregate-wrong-cell
-slice-aggregate-wrong-cell c = let g = c .before .before .before .before .before .before .before in sym (length-take-le (g .args .width) (g .args .symbol .now) (g .pre .6))
+slice-aggregate-wrong-cell c = let g = c .before .before .before .before .before .before .before in sym (length-take-le (g .args .width) (g .args .symbol .now) (g .pre .5))
 
 wrong-cell-requires : tie.Need-wrong-cell-requires
 wrong-cell-requires c κs =
     let g = c .before .before .before .before .before .before .before in
-    (g .pre .0 .fits, g .pre .0 .studied, omega (arith, g .pre .0 .shallow, g .pre .1, g .pre .3, g .pre .4), length-take-le (g .args .width) (g .args .symbol .now) (g .pre .6) ∙ g .pre .5)
+    (g .pre .0 .fits, g .pre .0 .studied, omega (arith, g .pre .3), length-take-le (g .args .width) (g .args .symbol .now) (g .pre .5) ∙ g .pre .4)
 
 enum-known-k : tie.Need-enum-known-k
 enum-known-k c = search needs

@@ -13,10 +13,12 @@ use Rattle.rules.specs.Fits.{capacity}
 use Rattle.rules.specs.Plan.{planOf}
 use Rattle.rules.specs.Grounds.{_else_}
 use Rattle.rules.specs.Frame.{Frame, frameOf, dataCount}
-use Rattle.rules.specs.Steps.{Emitter, Send, stateGround16, ground17}
+use Rattle.rules.specs.Store.{emitterPlaces}
+use Rattle.rules.specs.Steps.{Emitter, Send, ground16, ground17}
 use Rattle.spots.proofs.Frames.{cells-le}
 use Rattle.spots.proofs.Parts.{part-size}
-use Rattle.steps.specs.Ready.{Ready, Made, MadeIf}
+use Rattle.places.proofs.Sizes.{emitter-places-are}
+use Rattle.steps.specs.Ready.{Ready, readyAnswer, Made, MadeIf}
 use Rattle.steps.proofs.Accepted.{cells-low}
 use Rattle.steps.proofs.Lent.{ready-count, ready-refused}
 use Rattle.sending.specs.Sent.{givenBy, at, giving}
@@ -45,27 +47,46 @@ long g = omega (arith, g .pre .0 .all, cells-le (frame g), g .pre .3)
 part : (g : tie.Start) → length (take (g .args .n) (g .args .x .now)) ≡ g .args .n
 part g = length-take-le (g .args .n) (g .args .x .now) (long g)
 
--- grounds 16 and 17 are passed, and the number is N_D
-passed : (c : tie.After-nd) (s y : List ℕ) → let a = c .before .before .before .before .before .before .before .before .before .before .before .before .before .args in let F = frame (c .before .before .before .before .before .before .before .before .before .before .before .before .before) in length s ≡ a .places → length y ≡ a .width
-    → (Fine ≡ (stateGround16 F (a .state .phase) (a .state .row) else ground17 F s y)) × (c .nd .given .0 .0 ≡ dataCount F (a .state .phase))
-passed c s y es ey =
-    let g = c .before .before .before .before .before .before .before .before .before .before .before .before .before in
+-- m is the depth, and an emitter's store needs so many places
+deep : (c : tie.After-number-at) → c .number-at .result ≡ planOf (c .before .before .before .before .args .plan .now) .depth
+unfolding planOf
+deep c = c .number-at .ensures .0
+
+needed : (c : tie.After-emitter-places) → c .emitter-places .result ≡ emitterPlaces (frame (c .before .before .before .before .before .before))
+unfolding frameOf
+needed c =
+    let g = c .before .before .before .before .before .before in
+    c .emitter-places .ensures ∙ emitter-places-are (frame g) _ _ (deep (c .before .before)) (g .pre .0 .all)
+
+-- so `ready` answers
+answered : (c : tie.After-ready) (s y : List ℕ) → let g = c .before .before .before .before .before .before .before .before .before .before in let a = g .args in length s ≡ a .places → length y ≡ a .width → c .ready .result ≡ readyAnswer (frame g) (a .state .phase) (emitterPlaces (frame g)) s y (a .state .phase)
+answered c s y es ey =
+    let g = c .before .before .before .before .before .before .before .before .before .before in
     let a = g .args in
-    ready-count (frame g) (a .state .phase) (a .state .row) s y (a .state .phase) _ (sym (c .nd .given .1) ∙ c .before .before .before .before .ready .ensures .0 s y es ey)
+    let told : c .ready .result ≡ readyAnswer (frame g) (a .state .phase) (c .before .before .before .before .emitter-places .result) s y (a .state .phase) = c .ready .ensures .0 s y es ey in
+    told ∙ ap (λ (n : ℕ). readyAnswer (frame g) (a .state .phase) n s y (a .state .phase)) (needed (c .before .before .before .before))
+
+-- grounds 16 and 17 are passed, and the number is N_D
+passed : (c : tie.After-nd) (s y : List ℕ) → let a = c .before .before .before .before .before .before .before .before .before .before .before .before .before .before .args in let F = frame (c .before .before .before .before .before .before .before .before .before .before .before .before .before .before) in length s ≡ a .places → length y ≡ a .width
+    → (Fine ≡ (ground16 F (a .state .phase) else ground17 F (emitterPlaces F) s y)) × (c .nd .given .0 .0 ≡ dataCount F (a .state .phase))
+passed c s y es ey =
+    let g = c .before .before .before .before .before .before .before .before .before .before .before .before .before .before in
+    let a = g .args in
+    ready-count (frame g) (a .state .phase) (emitterPlaces (frame g)) s y (a .state .phase) _ (sym (c .nd .given .1) ∙ answered (c .before .before .before .before) s y es ey)
 
 -- the subcarriers and flags are made
-made : (c : tie.After-nd) → let last = c .before .before .before .before .ready .last .1 .1 .1 .1 .1 .1 .1 .1 .1 in Made (frame (c .before .before .before .before .before .before .before .before .before .before .before .before .before)) (c .before .before .before .before .before .before .before .before .before .before .before .before .before .args .state .phase) (last .0) (last .1 .0) (last .1 .1 .0)
+made : (c : tie.After-nd) → let last = c .before .before .before .before .ready .last .1 .1 .1 .1 .1 .1 .1 .1 .1 in Made (frame (c .before .before .before .before .before .before .before .before .before .before .before .before .before .before)) (c .before .before .before .before .before .before .before .before .before .before .before .before .before .before .args .state .phase) (last .0) (last .1 .0) (last .1 .1 .0)
 made c =
     let last = c .before .before .before .before .ready .last .1 .1 .1 .1 .1 .1 .1 .1 .1 in
-    let g = c .before .before .before .before .before .before .before .before .before .before .before .before .before in
+    let g = c .before .before .before .before .before .before .before .before .before .before .before .before .before .before in
     subst (λ (r : CountAnswer). MadeIf r (frame g) (g .args .state .phase) (last .0) (last .1 .0) (last .1 .1 .0)) (c .nd .given .1) (c .before .before .before .before .ready .ensures .1)
 
 -- the flags are so many, in an array that is whole again
-flags : (c : tie.After-nd) → length (c .before .before .before .before .ready .last .1 .1 .1 .1 .1 .1 .1 .1 .1 .1 .1 .0) ≡ c .before .before .before .before .before .before .before .before .before .before .before .before .before .args .n
-flags c = c .before .before .before .before .ready .kept .1 .1 .1 .1 .1 .1 .1 .1 .1 .1 .1 .0 ∙ part-size _ (low (c .before .before .before .before .before .before .before .before .before .before .before .before .before))
+flags : (c : tie.After-nd) → length (c .before .before .before .before .ready .last .1 .1 .1 .1 .1 .1 .1 .1 .1 .1 .1 .0) ≡ c .before .before .before .before .before .before .before .before .before .before .before .before .before .before .args .n
+flags c = c .before .before .before .before .ready .kept .1 .1 .1 .1 .1 .1 .1 .1 .1 .1 .1 .0 ∙ part-size _ (low (c .before .before .before .before .before .before .before .before .before .before .before .before .before .before))
 
-whole : (c : tie.After-nd) → length (c .before .before .before .before .ready .last .1 .1 .1 .1 .1 .1 .1 .1 .1 .1 .1 .0 ++ drop (c .before .before .before .before .before .before .before .before .before .before .before .before .before .args .n) (replicate capacity 0)) ≡ capacity
-whole c = length-front (replicate capacity 0) (c .before .before .before .before .ready .last .1 .1 .1 .1 .1 .1 .1 .1 .1 .1 .1 .0) (c .before .before .before .before .before .before .before .before .before .before .before .before .before .args .n) (c .before .before .before .before .ready .kept .1 .1 .1 .1 .1 .1 .1 .1 .1 .1 .1 .0) ∙ length-replicate {A = ℕ} capacity 0
+whole : (c : tie.After-nd) → length (c .before .before .before .before .ready .last .1 .1 .1 .1 .1 .1 .1 .1 .1 .1 .1 .0 ++ drop (c .before .before .before .before .before .before .before .before .before .before .before .before .before .before .args .n) (replicate capacity 0)) ≡ capacity
+whole c = length-front (replicate capacity 0) (c .before .before .before .before .ready .last .1 .1 .1 .1 .1 .1 .1 .1 .1 .1 .1 .0) (c .before .before .before .before .before .before .before .before .before .before .before .before .before .before .args .n) (c .before .before .before .before .ready .kept .1 .1 .1 .1 .1 .1 .1 .1 .1 .1 .1 .0) ∙ length-replicate {A = ℕ} capacity 0
 
 number-at-requires : tie.Need-number-at-requires
 number-at-requires c κs = search needs
@@ -73,25 +94,31 @@ number-at-requires c κs = search needs
 cast-j : tie.Need-cast-j
 cast-j c = search needs
 
+emitter-places-requires : tie.Need-emitter-places-requires
+unfolding frameOf
+emitter-places-requires c κs =
+    let g = c .before .before .before .before .before in
+    let m = deep (c .before) in
+    let r = g .pre .0 in
+    (omega (arith, m, r .deep), omega (arith, m, r .shallow), low g)
+
 array-borrow-prefix-kc : tie.Need-array-borrow-prefix-kc
-array-borrow-prefix-kc c = low (c .before .before .before .before .before .before)
+array-borrow-prefix-kc c = low (c .before .before .before .before .before .before .before)
 
 slice-aggregate-ready : tie.Need-slice-aggregate-ready
-slice-aggregate-ready c = sym (part-size _ (low (c .before .before .before .before .before .before .before)))
+slice-aggregate-ready c = sym (part-size _ (low (c .before .before .before .before .before .before .before .before)))
 
 array-borrow-prefix-flag : tie.Need-array-borrow-prefix-flag
-array-borrow-prefix-flag c = low (c .before .before .before .before .before .before .before)
+array-borrow-prefix-flag c = low (c .before .before .before .before .before .before .before .before)
 
 slice-aggregate-ready-2 : tie.Need-slice-aggregate-ready-2
-slice-aggregate-ready-2 c = sym (part-size _ (low (c .before .before .before .before .before .before .before .before)))
+slice-aggregate-ready-2 c = sym (part-size _ (low (c .before .before .before .before .before .before .before .before .before)))
 
 ready-requires : tie.Need-ready-requires
-unfolding planOf
 ready-requires c κs =
-    let g = c .before .before .before .before .before .before .before .before in
+    let g = c .before .before .before .before .before .before .before .before .before in
     let a = g .args in
-    let depth = c .before .before .before .before .number-at .ensures in
-    (subst (λ (n : ℕ). Ready (a .d) (a .plan .now) n (a .marks .now)) (sym (part-size (a .n) (low g))) (g .pre .0), depth .0, depth .1, λ h. omega (arith, h), g .pre .2, refl)
+    (subst (λ (n : ℕ). Ready (a .d) (a .plan .now) n (a .marks .now)) (sym (part-size (a .n) (low g))) (g .pre .0), deep (c .before .before .before .before .before), λ h. omega (arith, h), g .pre .2, refl)
 
 enum-known-g : tie.Need-enum-known-g
 enum-known-g c = search needs
@@ -106,15 +133,15 @@ slice-aggregate-fill-in : tie.Need-slice-aggregate-fill-in
 slice-aggregate-fill-in c = sym (whole (c .before .before))
 
 slice-relend-prefix-fill-in : tie.Need-slice-relend-prefix-fill-in
-slice-relend-prefix-fill-in c = long (c .before .before .before .before .before .before .before .before .before .before .before .before .before .before .before)
+slice-relend-prefix-fill-in c = long (c .before .before .before .before .before .before .before .before .before .before .before .before .before .before .before .before)
 
 slice-aggregate-fill-in-2 : tie.Need-slice-aggregate-fill-in-2
-slice-aggregate-fill-in-2 c = sym (part (c .before .before .before .before .before .before .before .before .before .before .before .before .before .before .before .before))
+slice-aggregate-fill-in-2 c = sym (part (c .before .before .before .before .before .before .before .before .before .before .before .before .before .before .before .before .before))
 
 fill-in-requires : tie.Need-fill-in-requires
 fill-in-requires c κs =
     let k = c .before .before .before in
-    let g = k .before .before .before .before .before .before .before .before .before .before .before .before .before in
+    let g = k .before .before .before .before .before .before .before .before .before .before .before .before .before .before in
     let a = g .args in
     let all = g .pre .0 .all in
     let number = passed k (replicate (a .places) 0) (replicate (a .width) 0) (length-replicate (a .places) 0) (length-replicate (a .width) 0) .1 in (
@@ -134,10 +161,10 @@ enum-told c = search needs
 
 returns : tie.Need-returns
 returns c store ds room es er t =
-    let g = c .before .before .before .before .before .before .before .before .before .before .before .before .before .before in
+    let g = c .before .before .before .before .before .before .before .before .before .before .before .before .before .before .before in
     let a = g .args in (
       by-lent (a .d) (a .plan .now) (emitter g store) (asked g ds room) (g .pre .0 .fine) _ _
-          (ready-refused (frame g) (a .state .phase) (a .state .row) store room (a .state .phase) _ _ (sym (c .before .g .given .1) ∙ c .before .before .before .before .before .ready .ensures .0 store room es er)),
+          (ready-refused (frame g) (a .state .phase) (emitterPlaces (frame g)) store room (a .state .phase) _ _ (sym (c .before .g .given .1) ∙ answered (c .before .before .before .before .before) store room es er)),
       tt,
     )
 
@@ -146,7 +173,7 @@ same-length c = search needs
 
 returns-2 : tie.Need-returns-2
 returns-2 c store ds room es er t =
-    let g = c .before .before .before .before .before .before .before .before .before .before .before .before .before .before .before .before .before .before .before .before .before .before in (
+    let g = c .before .before .before .before .before .before .before .before .before .before .before .before .before .before .before .before .before .before .before .before .before .before .before in (
       by-given (g .args .d) (g .args .plan .now) (emitter g store) (asked g ds room) (g .pre .0 .fine) (passed (c .before .before .before .before .before .before .before .before .before) store room es er .0) (Ground _ _)
           (sym (c .before .g2 .given .1) ∙ c .before .before .before .before .before .fill-in .ensures ds t .0),
       tt,
@@ -157,7 +184,7 @@ same-length-2 c = search needs
 
 returns-3 : tie.Need-returns-3
 returns-3 c store ds room es er t =
-    let g = c .before .before .before .before .before .before .before .before .before .before .before .before .before .before .before .before .before .before .before .before .before in
+    let g = c .before .before .before .before .before .before .before .before .before .before .before .before .before .before .before .before .before .before .before .before .before .before in
     let k = c .before .before .before .before .before .before .before .before in
     let all = g .pre .0 .all in
     let x = c .before .before .before .before .fill-in in
@@ -177,6 +204,7 @@ admit-step-spec =
     (tie.spec
     number-at-requires
     cast-j
+    emitter-places-requires
     array-borrow-prefix-kc
     slice-aggregate-ready
     array-borrow-prefix-flag

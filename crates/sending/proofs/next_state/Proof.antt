@@ -6,11 +6,8 @@ use Rattle.sending.proofs.next_state.Tie as tie
 next-phase-requires : tie.Need-next-phase-requires
 next-phase-requires c κs = search needs
 
-next-row-requires : tie.Need-next-row-requires
-next-row-requires c κs = search needs
-
 returns : tie.Need-returns
-returns c = λ i. record { phase = c .before .next-phase .ensures i; row = c .next-row .ensures i }
+returns c = λ i. record { phase = c .next-phase .ensures i }
 
 pub next-state-spec : {M : Type 1} → statement M
-next-state-spec = tie.close (tie.spec next-phase-requires next-row-requires returns)
+next-state-spec = tie.close (tie.spec next-phase-requires returns)

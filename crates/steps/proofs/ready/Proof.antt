@@ -10,7 +10,7 @@ use Rattle.rules.specs.declared.CountAnswer.the-variants.{Count}
 use Rattle.rules.specs.Plan.{planOf}
 use Rattle.rules.specs.Grounds.{_else_}
 use Rattle.rules.specs.Frame.{Frame, frameOf}
-use Rattle.rules.specs.Steps.{stateGround16, ground17}
+use Rattle.rules.specs.Steps.{ground16, ground17}
 use Rattle.spots.proofs.Frames.{data-le}
 use Rattle.steps.proofs.Accepted.{cells-low}
 use Rattle.steps.proofs.Lent.{lent, count-ready, refused-ready}
@@ -23,17 +23,14 @@ frame g = frameOf (g .args .d) (planOf (g .args .plan .now))
 
 -- neither ground 16 nor 17 holds, for a store and a symbol of these lengths
 Passed : tie.Start → Type 0
-Passed g = (s y : List ℕ) → length s ≡ g .args .places → length y ≡ g .args .width → Fine ≡ (stateGround16 (frame g) (g .args .phase) (g .args .row) else ground17 (frame g) s y)
+Passed g = (s y : List ℕ) → length s ≡ g .args .places → length y ≡ g .args .width → Fine ≡ (ground16 (frame g) (g .args .phase) else ground17 (frame g) (g .args .need) s y)
 
 passed : (c : tie.After-enum-told) → Passed (c .before .before .before .before .before .before .before)
 unfolding Passed
 passed c s y es ey = sym (c .enum-told .given .1) ∙ c .before .before .lent-grounds .ensures s y es ey
 
 lent-grounds-requires : tie.Need-lent-grounds-requires
-lent-grounds-requires c κs =
-    let g = c .before .before .before .before in
-    let r = g .pre .0 in
-    (g .pre .1, r .all, g .pre .2, omega (arith, r .all, cells-low (g .args .d) (planOf (g .args .plan .now)) (r .fits)))
+lent-grounds-requires c κs = search needs
 
 enum-known-g : tie.Need-enum-known-g
 enum-known-g c = search needs
@@ -41,7 +38,7 @@ enum-known-g c = search needs
 returns : tie.Need-returns
 returns c =
     let g = c .before .before .before .before .before .before .before .before in
-    (λ s y es ey. refused-ready (frame g) (g .args .phase) (g .args .row) s y (g .args .j) _ _ (sym (c .before .g .given .1) ∙ c .before .before .before .lent-grounds .ensures s y es ey), tt)
+    (λ s y es ey. refused-ready (frame g) (g .args .phase) (g .args .need) s y (g .args .j) _ _ (sym (c .before .g .given .1) ∙ c .before .before .before .lent-grounds .ensures s y es ey), tt)
 
 enum-told : tie.Need-enum-told
 enum-told c = search needs
@@ -55,11 +52,11 @@ prepare-requires c κs =
     let m = g .pre .1 in
     let s : List ℕ = replicate (a .places) 0 in
     let y : List ℕ = replicate (a .width) 0 in
-    let w = lent (frame g) (a .phase) (a .row) s y (passed (c .before .before .before) s y (length-replicate (a .places) 0) (length-replicate (a .width) 0)) in
-    (r .fits, r .studied, m, omega (arith, m, r .deep), omega (arith, m, r .shallow), g .pre .3 (w .phase-in), g .pre .4, r .all, omega (arith, g .pre .5))
+    let w = lent (frame g) (a .phase) (a .need) s y (passed (c .before .before .before) s y (length-replicate (a .places) 0) (length-replicate (a .width) 0)) in
+    (r .fits, r .studied, m, omega (arith, m, r .deep), omega (arith, m, r .shallow), g .pre .2 (w .phase-in), g .pre .3, r .all, omega (arith, g .pre .4))
 
-cast-t24 : tie.Need-cast-t24
-cast-t24 c =
+cast-t23 : tie.Need-cast-t23
+cast-t23 c =
     let g = c .before .before .before .before .before .before .before .before .before .before .before .before .before .before .before .before .before in
     record { fits = omega (arith, c .before .before .before .before .before .before .prepare .ensures .1 .1 .1, data-le (frame g) (g .args .j), cells-low (g .args .d) (planOf (g .args .plan .now)) (g .pre .0 .fits)) }
 
@@ -79,7 +76,7 @@ returns-2 c =
     let g = made .before .before .before .before .before .before .before .before .before .before .before in
     let a = g .args in
     let all = g .pre .0 .all in (
-      λ s y es ey. ap Count (made .prepare .ensures .1 .1 .1) ∙ count-ready (frame g) (a .phase) (a .row) s y (a .j) (passed (made .before .before .before .before) s y es ey),
+      λ s y es ey. ap Count (made .prepare .ensures .1 .1 .1) ∙ count-ready (frame g) (a .phase) (a .need) s y (a .j) (passed (made .before .before .before .before) s y es ey),
       record {
         ranks = λ i h. made .prepare .ensures .0 i (omega (arith, h, all));
         spots = λ p h. made .prepare .ensures .1 .0 p (omega (arith, h, all));
@@ -96,7 +93,7 @@ ready-spec =
     returns
     enum-told
     prepare-requires
-    cast-t24
+    cast-t23
     same-length
     same-length-2
     same-length-3

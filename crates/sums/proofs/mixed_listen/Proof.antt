@@ -21,7 +21,7 @@ mixed3-requires : tie.Need-mixed3-requires
 mixed3-requires c κs = search needs
 
 returns : tie.Need-returns
-returns c = rw (c .before .before .before .answer .given .1) (after (_ ∷ _ ∷ _ ∷ []) (c .mixed-state .ensures) (c .before .mixed .ensures))
+returns c = rw (c .before .before .before .answer .given .1) (after (_ ∷ _ ∷ []) (c .mixed-state .ensures) (c .before .mixed .ensures))
 
 returns-2 : tie.Need-returns-2
 returns-2 c = rw (c .before .before .answer2 .given .1) (c .mixed3 .ensures)

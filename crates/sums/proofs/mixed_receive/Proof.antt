@@ -36,13 +36,13 @@ mixed-state-requires-3 : tie.Need-mixed-state-requires-3
 mixed-state-requires-3 c κs = search needs
 
 returns : tie.Need-returns
-returns c = rw (c .before .before .before .answer .given .1) (after (_ ∷ _ ∷ _ ∷ []) (c .mixed-state .ensures) (c .before .mixed .ensures))
+returns c = rw (c .before .before .before .answer .given .1) (after (_ ∷ _ ∷ []) (c .mixed-state .ensures) (c .before .mixed .ensures))
 
 returns-2 : tie.Need-returns-2
-returns-2 c = rw (c .before .before .before .before .answer2 .given .1) (after (_ ∷ _ ∷ _ ∷ []) (c .mixed-state2 .ensures) (after (_ ∷ []) (c .before .mixed3 .ensures) (c .before .before .mixed2 .ensures)))
+returns-2 c = rw (c .before .before .before .before .answer2 .given .1) (after (_ ∷ _ ∷ []) (c .mixed-state2 .ensures) (after (_ ∷ []) (c .before .mixed3 .ensures) (c .before .before .mixed2 .ensures)))
 
 returns-3 : tie.Need-returns-3
-returns-3 c = rw (c .before .before .before .answer3 .given .1) (after (_ ∷ _ ∷ _ ∷ []) (c .mixed-state3 .ensures) (c .before .mixed32 .ensures))
+returns-3 c = rw (c .before .before .before .answer3 .given .1) (after (_ ∷ _ ∷ []) (c .mixed-state3 .ensures) (c .before .mixed32 .ensures))
 
 pub mixed-receive-spec : {M : Type 1} → statement M
 mixed-receive-spec =

@@ -8,36 +8,32 @@ use Rattle.sums.proofs.mixed_send.Tie as tie
 enum-known-answer : tie.Need-enum-known-answer
 enum-known-answer c = search needs
 
-mixed3-requires : tie.Need-mixed3-requires
-mixed3-requires c κs = search needs
+mixed-two-requires : tie.Need-mixed-two-requires
+mixed-two-requires c κs = search needs
 
 enum-known-answer-2 : tie.Need-enum-known-answer-2
 enum-known-answer-2 c = search needs
 
-mixed3-requires-2 : tie.Need-mixed3-requires-2
-mixed3-requires-2 c κs = search needs
+mixed3-requires : tie.Need-mixed3-requires
+mixed3-requires c κs = search needs
 
 mixed-requires : tie.Need-mixed-requires
 mixed-requires c κs = search needs
 
-mixed-requires-2 : tie.Need-mixed-requires-2
-mixed-requires-2 c κs = search needs
-
 returns : tie.Need-returns
-returns c = rw (c .before .before .answer .given .1) (c .mixed3 .ensures)
+returns c = rw (c .before .before .answer .given .1) (c .mixed-two .ensures)
 
 returns-2 : tie.Need-returns-2
-returns-2 c = rw (c .before .before .before .before .answer2 .given .1) (after (_ ∷ []) (c .mixed2 .ensures) (after (_ ∷ []) (c .before .mixed .ensures) (c .before .before .mixed32 .ensures)))
+returns-2 c = rw (c .before .before .before .answer2 .given .1) (after (_ ∷ []) (c .mixed .ensures) (c .before .mixed3 .ensures))
 
 pub mixed-send-spec : {M : Type 1} → statement M
 mixed-send-spec =
     tie.close
     (tie.spec
     enum-known-answer
-    mixed3-requires
+    mixed-two-requires
     enum-known-answer-2
-    mixed3-requires-2
+    mixed3-requires
     mixed-requires
-    mixed-requires-2
     returns
     returns-2)
