@@ -1,6 +1,6 @@
 /* Times the library beside the two C implementations, all in one run: in each round every implementation makes the same small batch of
  * calls, in turn, and what they leave is compared byte for byte. Each line gives the median round of each, in microseconds a call.
- * With bench/ring.c, a library of version 2 runs too: its stores are others, all else is compared.
+ * With bench/ring.c, a library of version 2 runs too: its stores are others, all else is compared; it has no modulate.
  *
  *     bench PLANS [ROUNDS]
  *
@@ -13,11 +13,12 @@
 #include <string.h>
 #include <time.h>
 
-enum { SYMBOL = 8192, DATA = 7490, ANSWER = 16, PHASES = 128, TRUNKS = 16 };
+enum { SYMBOL = 8192, SUBCARRIERS = 4096, NUMBERS = 8192, DATA = 7490, ANSWER = 16, PHASES = 128, TRUNKS = 16 };
 enum { WARM = 2, TIMED = 16, BATCH = WARM + TIMED }; /* calls of a batch; the first are not timed, they bring the store into the cache */
 enum { TURNS = 3 };                                  /* turns of sixteen trunks, of which the first is not timed */
 enum { POOL = 8, MOST_ROUNDS = 4096 };
-enum call { JUDGE, EMIT, FLUSH, RECEIVE };
+enum { RUN = 64 };                                   /* subcarriers of one load, where loads come in runs */
+enum call { JUDGE, EMIT, FLUSH, RECEIVE, MODULATE };
 
 extern const struct calls library, best_gcc, best_clang, plain_gcc, plain_clang, ring;
 static const struct calls *const ALL[] = {
@@ -43,11 +44,13 @@ struct bench {
     uint8_t out[TURNS * TRUNKS][SYMBOL];
     uint8_t answer[TURNS * TRUNKS][ANSWER];
     uint32_t number[TURNS * TRUNKS];
+    float numbers[NUMBERS], left[BATCH][NUMBERS]; /* the modulator symbol of the timed calls, and that of each call */
     double time[MOST_ROUNDS];
 };
 
 static struct bench *bench[IMPLEMENTATIONS], *feed; /* feed: the emitter whose symbols the receivers get */
 static uint8_t plan[4096], pool[POOL][DATA], arriving[TURNS * TRUNKS][SYMBOL];
+static uint8_t loads[SUBCARRIERS], minus[SUBCARRIERS];
 static size_t plan_len;
 static uint32_t counts[PHASES];
 
@@ -88,12 +91,42 @@ static void fill_pool(void)
         }
 }
 
+/* A listed load for each run of so many subcarriers, and a sign for each one's pilot. */
+static void fill_loads(int run)
+{
+    static const uint8_t listed[] = {1, 2, 4, 6, 7, 8, 9, 10, 11, 12, 13, 14};
+    for (int k = 0; k < SUBCARRIERS; k++) {
+        loads[k] = k % run == 0 ? listed[chance() % sizeof listed] : loads[k - 1];
+        minus[k] = (uint8_t)(chance() & 1);
+    }
+}
+
+/* Data cells of a symbol become values below 2 to the load. */
+static void fit_loads(uint8_t *symbol)
+{
+    for (int k = 0; k < SUBCARRIERS; k++)
+        if (symbol[2 * k] < 0x80) {
+            uint32_t x = chance() & ((1u << loads[k]) - 1);
+            symbol[2 * k] = (uint8_t)(x >> 8);
+            symbol[2 * k + 1] = (uint8_t)x;
+        }
+}
+
+static uint32_t modulate(const struct calls *c, struct bench *b, int i, float *numbers)
+{
+    return c->modulate(arriving[i], SYMBOL, loads, SUBCARRIERS, minus, SUBCARRIERS, numbers, NUMBERS, b->answer[i], ANSWER);
+}
+
 /* One call of the batch, on one trunk; data and symbols are those of its number. */
 static void make(const struct calls *c, struct bench *b, enum call call, struct trunk *t, int i)
 {
     uint8_t *out = b->out[i], *answer = b->answer[i];
     if (call == JUDGE) {
         b->number[i] = c->judge(plan, plan_len, answer, ANSWER);
+        return;
+    }
+    if (call == MODULATE) {
+        b->number[i] = modulate(c, b, i, b->numbers);
         return;
     }
     if (call == EMIT)
@@ -108,16 +141,26 @@ static void make(const struct calls *c, struct bench *b, enum call call, struct 
     t->heard = get(answer + 8);
 }
 
-/* A batch of calls; the answer is the time of one. */
+/* A batch of calls; the answer is the time of one. A modulator's tables come into the cache by a batch that is not timed. */
 static double batch(const struct calls *c, struct bench *b, enum call call, int trunks)
 {
     int warm = trunks == 1 ? WARM : trunks, all = trunks == 1 ? BATCH : TURNS * trunks, i = 0;
+    for (int j = 0; call == MODULATE && j < BATCH; j++)
+        make(c, b, call, &b->trunk[0], j);
     for (; i < warm; i++)
         make(c, b, call, &b->trunk[i % trunks], i);
     double from = now();
     for (; i < all; i++)
         make(c, b, call, &b->trunk[i % trunks], i);
     return (now() - from) / (all - warm);
+}
+
+/* The modulator symbol of each call of a batch, to be compared. */
+static void keep_numbers(const struct calls *c, struct bench *b)
+{
+    for (int i = 0; i < BATCH; i++)
+        if (modulate(c, b, i, b->left[i]) != b->number[i])
+            fail("a call gives another number");
 }
 
 static void start(const struct calls *c, struct bench *b, enum call call, int trunks)
@@ -133,28 +176,37 @@ static void start(const struct calls *c, struct bench *b, enum call call, int tr
     }
 }
 
-/* The symbols that the receivers get next: all trunks the same ones. */
-static void arrive(int trunks)
+/* The symbols that the receivers or the modulators get next: all trunks the same ones. */
+static void arrive(enum call call, int trunks)
 {
     int all = trunks == 1 ? BATCH : TURNS * trunks;
     for (int i = 0; i < all; i++) {
         if (i % trunks == 0)
             make(&best_gcc, feed, EMIT, &feed->trunk[0], i);
         memcpy(arriving[i], feed->out[i - i % trunks], SYMBOL);
+        if (call == MODULATE)
+            fit_loads(arriving[i]);
     }
+}
+
+static int has(int n, enum call call)
+{
+    return call != MODULATE || ALL[n]->modulate != NULL;
 }
 
 static void compare(enum call call, int trunks)
 {
     int all = trunks == 1 ? BATCH : TURNS * trunks;
-    for (int n = 1; n < IMPLEMENTATIONS; n++) {
+    for (int n = 1; n < IMPLEMENTATIONS && has(n, call); n++) {
         const struct bench *a = bench[0], *b = bench[n];
         if (memcmp(a->number, b->number, (size_t)all * sizeof a->number[0]) != 0)
             fail("the numbers differ");
         if (memcmp(a->answer, b->answer, (size_t)all * ANSWER) != 0)
             fail("the answers differ");
-        if (call != JUDGE && memcmp(a->out, b->out, (size_t)all * SYMBOL) != 0)
+        if (call != JUDGE && call != MODULATE && memcmp(a->out, b->out, (size_t)all * SYMBOL) != 0)
             fail("the symbols or the data differ");
+        if (call == MODULATE && memcmp(a->left, b->left, sizeof a->left) != 0)
+            fail("the modulator symbols differ");
     }
     for (int i = 0; call != JUDGE && i < all; i++)
         if (bench[0]->number[i] != 0)
@@ -177,28 +229,30 @@ static int rising(const void *a, const void *b)
     return (x > y) - (x < y);
 }
 
-static void line(const char *name, enum call call, int trunks, int rounds)
+static void line(const char *name, const char *what, enum call call, int trunks, int rounds)
 {
-    static const char *const calls[] = {"judge", "emit", "flush", "receive"};
     int settle = 40 / (trunks == 1 ? BATCH : TURNS) + 1; /* batches until no emitter or receiver is warming */
-    for (int n = 0; call != JUDGE && n < IMPLEMENTATIONS; n++)
+    int steps = call == EMIT || call == FLUSH || call == RECEIVE;
+    for (int n = 0; steps && n < IMPLEMENTATIONS; n++)
         start(ALL[n], bench[n], call, trunks);
-    if (call == RECEIVE)
+    if (call == RECEIVE || call == MODULATE)
         start(&best_gcc, feed, EMIT, 1);
     for (int round = -settle; round < rounds; round++) {
-        if (call == RECEIVE)
-            arrive(trunks);
+        if (call == RECEIVE || call == MODULATE)
+            arrive(call, trunks);
         for (int n = 0; n < IMPLEMENTATIONS; n++) {
             int which = (n + (round < 0 ? 0 : round)) % IMPLEMENTATIONS;
-            double time = batch(ALL[which], bench[which], call, trunks);
+            double time = has(which, call) ? batch(ALL[which], bench[which], call, trunks) : 0;
             if (round >= 0)
                 bench[which]->time[round] = time;
         }
+        for (int n = 0; call == MODULATE && n < IMPLEMENTATIONS && has(n, call); n++)
+            keep_numbers(ALL[n], bench[n]);
         compare(call, trunks);
     }
-    if (call != JUDGE)
+    if (steps)
         compare_stores(trunks);
-    printf("%s\t%s", name, trunks == 1 ? calls[call] : call == EMIT ? "emit, 16 trunks" : "receive, 16 trunks");
+    printf("%s\t%s", name, what);
     for (int n = 0; n < IMPLEMENTATIONS; n++) {
         qsort(bench[n]->time, (size_t)rounds, sizeof(double), rising);
         printf("\t%.3f", bench[n]->time[rounds / 2]);
@@ -272,6 +326,7 @@ int main(int words, char **word)
         {"Plan A", "plan-a.plan", 0},       {"largest, M 1", "largest.plan", 1},   {"largest, M 4", "largest.plan", 4},
         {"largest, M 31", "largest.plan", 31}, {"largest, M 32", "largest.plan", 32}, {"hostile", "overlapping-510.plan", 0},
         {"150 singles", "singles-150.plan", 0}};
+    static const char *const calls[] = {"judge", "emit", "flush", "receive"};
     int rounds = words > 2 ? atoi(word[2]) : 300;
     if (words < 2 || rounds < 1 || rounds > MOST_ROUNDS)
         fail("usage: bench PLANS [ROUNDS]");
@@ -283,10 +338,14 @@ int main(int words, char **word)
     for (size_t i = 0; i < sizeof plans / sizeof plans[0]; i++) {
         load(word[1], plans[i].file, plans[i].depth);
         for (enum call call = JUDGE; call <= RECEIVE; call++)
-            line(plans[i].name, call, 1, rounds);
+            line(plans[i].name, calls[call], call, 1, rounds);
     }
     load(word[1], "largest.plan", 32);
-    line("largest, M 32", EMIT, TRUNKS, rounds / 4 + 1);
-    line("largest, M 32", RECEIVE, TRUNKS, rounds / 4 + 1);
+    line("largest, M 32", "emit, 16 trunks", EMIT, TRUNKS, rounds / 4 + 1);
+    line("largest, M 32", "receive, 16 trunks", RECEIVE, TRUNKS, rounds / 4 + 1);
+    fill_loads(1);
+    line("largest, M 32", "modulate, mixed", MODULATE, 1, rounds);
+    fill_loads(RUN);
+    line("largest, M 32", "modulate, runs", MODULATE, 1, rounds);
     return 0;
 }

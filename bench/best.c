@@ -1,7 +1,7 @@
 /* The head end's calls in the fastest C we could write. Excluded and taken subcarriers are sets of 4,096 bits, so that a range costs the
  * same however long it is; cells stay as they are in memory, high byte first; the stretches of neighbouring subcarriers with a rank are
  * copied whole; rows are turned into columns eight by eight; placeholders are found by comparing sixteen cells at a time; a store is moved
- * down as a whole. */
+ * down as a whole; the points of all loads stand in one table, and sixteen subcarriers at a time are tested and looked up there. */
 #include "best.h"
 
 #include <string.h>
@@ -957,4 +957,168 @@ uint32_t best_receive(const uint8_t *plan, size_t plan_len, uint32_t phase, uint
     if (!warming)
         take_data((cell *)data, cells, s.n, holder, holders);
     return say(answer, answer_len, 0, 0, (phase + 1) & 127, heard + warming, count);
+}
+
+/* --- the modulator --- */
+
+typedef int8_t signed_sixteen __attribute__((vector_size(16)));
+typedef int16_t signed_eight __attribute__((vector_size(16)));
+typedef double two __attribute__((vector_size(16)));
+#define LOWER_BYTES(x, y) __builtin_shufflevector(x, y, 0, 16, 1, 17, 2, 18, 3, 19, 4, 20, 5, 21, 6, 22, 7, 23)
+#define UPPER_BYTES(x, y) __builtin_shufflevector(x, y, 8, 24, 9, 25, 10, 26, 11, 27, 12, 28, 13, 29, 14, 30, 15, 31)
+
+/* The two numbers of each value at each load, at 2^load + value. Where those of loads 3 and 5 would be, which are not listed, stand those
+ * of the marks, at MARK + mark - 0x8000, and with the minus sign at MINUS more. Made once, as the program starts. */
+enum { MARK = 8, MINUS = 32, OPEN = MARK + 4, ALL_LINES = 32768 };
+static float LINE[ALL_LINES][2];
+
+/* 1 / root d of the loads 1 to 14. */
+static const float FACTOR[15] = {0.0f,       1.0f,        0.70710677f, 0.4472136f,   0.31622776f,  0.2236068f,   0.15430336f, 0.11043153f,
+                                 0.0766965f, 0.05504819f, 0.03829198f, 0.027503267f, 0.019138975f, 0.013749033f, 0.009568611f};
+
+/* Gray_m of m bits. */
+static int gray(uint32_t m, uint32_t x)
+{
+    int inner = m == 0 ? 0 : m == 1 ? 1 : (1 << (m - 1)) + gray(m - 1, x >> 1);
+    return x & 1 ? -inner : inner;
+}
+
+/* The cross rule for 2n + 1 bits, of the rectangle's point. */
+static void cross(uint32_t n, int *i, int *q)
+{
+    int s = 1 << (n - 1), a = *i < 0 ? -*i : *i, b = *q < 0 ? -*q : *q, far = b > s;
+    if (a < 3 * s)
+        return;
+    a = far ? a - 2 * s : 4 * s - a;
+    b = far ? 4 * s - b : b + 2 * s;
+    *i = *i < 0 ? -a : a;
+    *q = *q < 0 ? -b : b;
+}
+
+static void make_point(uint32_t load, uint32_t value)
+{
+    float *at = LINE[(1u << load) + value];
+    uint32_t n = load / 2, odd = load % 2;
+    int lower = gray(n, value & ((1u << n) - 1)), upper = gray(n + odd, value >> n);
+    if (load > 1 && odd)
+        cross(n, &upper, &lower);
+    at[0] = (float)(odd ? upper : lower) * FACTOR[load];
+    at[1] = (float)(odd ? lower : upper) * FACTOR[load];
+}
+
+static int load_listed(uint32_t load)
+{
+    return load >= 1 && load <= 14 && load != 3 && load != 5;
+}
+
+__attribute__((constructor)) static void make_lines(void)
+{
+    for (uint32_t load = 1; load <= 14; load++)
+        for (uint32_t value = 0; load_listed(load) && value < 1u << load; value++)
+            make_point(load, value);
+    for (uint32_t pilot = 0; pilot <= 3; pilot += 3) {
+        LINE[MARK + pilot][0] = 2.0f;
+        LINE[MARK + MINUS + pilot][0] = -2.0f;
+    }
+}
+
+/* 2 to each of sixteen loads, the lower bytes of them and the upper. */
+static inline void powers(sixteen load, sixteen *lower, sixteen *upper)
+{
+    sixteen no1 = (sixteen)((load & 2) == 0), no2 = (sixteen)((load & 4) == 0), no3 = (sixteen)((load & 8) == 0);
+    sixteen p = (load & 1) + 1, twice = p + p;
+    p = (p & no1) | ((twice + twice) & ~no1);
+    p = (p & no2) | ((sixteen)((eight)p << 4) & ~no2);
+    *lower = p & no3;
+    *upper = p & ~no3;
+}
+
+/* Of eight cells with 2 to their loads, and MINUS where the sign is minus, the indices in LINE. `over` collects bits of unmarked cells that
+ * are not below 2 to the load. */
+static inline eight indices(eight cells, eight power, eight minus, eight *over)
+{
+    eight marked = (eight)((signed_eight)cells < (int16_t)-0x7FFB);
+    *over |= cells & -power & ~marked;
+    return ((cells | power) & ~marked) | ((cells - 0x8000 + MARK + minus) & marked);
+}
+
+static inline int any(const void *bytes)
+{
+    uint64_t w[2];
+    memcpy(w, bytes, sizeof w);
+    return (w[0] | w[1]) != 0;
+}
+
+/* Of each subcarrier the index in LINE, and of each sixteen whether one is left open. Answers whether nothing refuses. */
+static int find_lines(const uint8_t *symbol, const uint8_t *loads, const uint8_t *minus, uint16_t *index, uint8_t *open)
+{
+    const sixteen zero = {0};
+    sixteen unlisted = {0}, load, sign, lower, upper;
+    eight over = {0}, a, b;
+    for (uint32_t k = 0; k < SUBCARRIERS; k += 16) {
+        memcpy(&load, loads + k, 16);
+        memcpy(&sign, minus + k, 16);
+        memcpy(&a, symbol + 2 * k, 16);
+        memcpy(&b, symbol + 2 * k + 16, 16);
+        a = CELL(a);
+        b = CELL(b);
+        unlisted |= (sixteen)((signed_sixteen)(load + 127) > -115) | (sixteen)(load == 3) | (sixteen)(load == 5);
+        powers(load, &lower, &upper);
+        sign = (sixteen)(sign != 0) & MINUS;
+        eight opened = (eight)(a == 0x8004) | (eight)(b == 0x8004);
+        open[k / 16] = (uint8_t)any(&opened);
+        a = indices(a, (eight)LOWER_BYTES(lower, upper), (eight)LOWER_BYTES(sign, zero), &over);
+        b = indices(b, (eight)UPPER_BYTES(lower, upper), (eight)UPPER_BYTES(sign, zero), &over);
+        memcpy(index + k, &a, 16);
+        memcpy(index + k + 8, &b, 16);
+    }
+    return !any(&unlisted) && !any(&over);
+}
+
+static inline double both(uint16_t index)
+{
+    double d;
+    memcpy(&d, LINE[index], sizeof d);
+    return d;
+}
+
+static void put_lines(const uint16_t *index, const uint8_t *open, float *numbers)
+{
+    for (uint32_t k = 0; k < SUBCARRIERS; k += 2) {
+        if (!open[k / 16]) {
+            two lines = {both(index[k]), both(index[k + 1])};
+            memcpy(numbers + 2 * k, &lines, sizeof lines);
+            continue;
+        }
+        for (uint32_t i = k; i < k + 2; i++)
+            if ((index[i] & ~MINUS) != OPEN)
+                memcpy(numbers + 2 * i, LINE[index[i]], sizeof LINE[0]);
+    }
+}
+
+/* The refusal by 22 or 23 of the lowest subcarrier that gives one. */
+static uint32_t refuse_line(const uint8_t *symbol, const uint8_t *loads, uint8_t *answer)
+{
+    for (uint32_t k = 0;; k++) {
+        uint32_t cell = (uint32_t)symbol[2 * k] << 8 | symbol[2 * k + 1];
+        if (!load_listed(loads[k]))
+            return say(answer, ANSWER, 22, loads[k], 0, 0, k);
+        if (cell - 0x8000 > 4 && cell >= 1u << loads[k])
+            return say(answer, ANSWER, 23, cell, 0, 0, k);
+    }
+}
+
+uint32_t best_modulate(const uint8_t *symbol, size_t symbol_len, const uint8_t *loads, size_t loads_len, const uint8_t *minus,
+                       size_t minus_len, float *numbers, size_t numbers_count, uint8_t *answer, size_t answer_len)
+{
+    uint16_t index[SUBCARRIERS];
+    uint8_t open[SUBCARRIERS / 16];
+    if (answer_len < ANSWER || symbol_len % 2 != 0)
+        return say(answer, answer_len, 21, 0, 0, 0, 0);
+    if (symbol_len != 2 * SUBCARRIERS || loads_len != SUBCARRIERS || minus_len != SUBCARRIERS || numbers_count != 2 * SUBCARRIERS)
+        return say(answer, answer_len, 17, 0, 0, 0, 0);
+    if (!find_lines(symbol, loads, minus, index, open))
+        return refuse_line(symbol, loads, answer);
+    put_lines(index, open, numbers);
+    return say(answer, answer_len, 0, 0, 0, 0, 0);
 }

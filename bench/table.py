@@ -35,6 +35,8 @@ def to_ring(numbers):
     """The columns of a library of version 2, if it ran."""
     if 'ring' not in numbers[0]:
         return ''
+    if numbers[0]['ring'] == 0:                     # a call that version 2 has not
+        return '%8s %9s %-13s ' % ('', '', '')
     ratios = [n['library'] / n['ring'] for n in numbers]
     mid = statistics.median
     return '%8.2f %9.2f %-13s ' % (mid(n['ring'] for n in numbers), mid(ratios), '%.2f..%.2f' % (min(ratios), max(ratios)))

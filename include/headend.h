@@ -2,13 +2,15 @@
  *
  * Every call returns the number of the ground that refuses it, 0 if none, and writes the rest of its answer into the first
  * HEADEND_ANSWER_BYTES bytes of `answer`, four numbers of four bytes each, high byte first (HEADEND_PLACE and so on say where).
- * A refused call writes its answer and changes no store, symbol or data. Its answer gives the state back as it was passed in (0 for a
- * refused fresh start, which was passed none). With a shorter `answer` a call returns 21 and writes nothing.
+ * A refused call writes its answer and changes no store, symbol, data or modulator symbol. Its answer gives the state back as it was
+ * passed in (0 where none was passed). With a shorter `answer` a call returns 21 and writes nothing.
  *
- * A cell is two bytes, high byte first. A plan and each buffer pass as a pointer and a length in bytes. What is relied on: each pointer
- * is good for the length passed with it (with length 0 it may be NULL), and a buffer that a call writes overlaps no other. Nothing else:
- * any bytes and any numbers may be passed. No call keeps a pointer, allocates, blocks or uses a global, so calls on different buffers may
- * run at the same time. A call needs up to HEADEND_STACK_BYTES of stack: that is measured, and no part of the proof.
+ * A cell is two bytes, high byte first. A plan and each buffer pass as a pointer and a length in bytes, a modulator symbol as a pointer
+ * and a number of floats. What is relied on: each pointer is good for the length passed with it (with length 0 it may be NULL), and a
+ * buffer that a call writes overlaps no other; of headend_modulate besides that floats are aligned and rounded to nearest, as C has them
+ * from the start. Nothing else: any bytes and any numbers may be passed. No call keeps a pointer, allocates, blocks or uses a global, so
+ * calls on different buffers may run at the same time. A call needs up to HEADEND_STACK_BYTES of stack: that is measured, and no part of
+ * the proof.
  */
 #ifndef HEADEND_H
 #define HEADEND_H
@@ -21,8 +23,9 @@ extern "C" {
 #endif
 
 /* Grows by one whenever a call takes, answers or writes something else for the same bytes, or a name below has another value or goes.
- * A name or a helper that is added does not count. 1 was the interface as it came, 2 counts the widths, 3 keeps one cell in a store for
- * each symbol of delay and has no row; headers from before this name are of 1 or of 2. */
+ * A name, a call or a helper that is added does not count. 1 was the interface as it came, 2 counts the widths, 3 keeps one cell in a
+ * store for each symbol of delay and has no row; headers from before this name are of 1 or of 2. A header of 3 that has HEADEND_NUMBERS
+ * has headend_modulate. */
 #define HEADEND_VERSION 3
 
 /* The number that a call returns is not to be ignored: gcc and clang warn. */
@@ -37,7 +40,7 @@ extern "C" {
 #define HEADEND_PLACE 0  /* the place of a refusal */
 #define HEADEND_PHASE 4  /* the state of the next step: phase, */
 #define HEADEND_HEARD 8  /* and of a receiver the symbols heard, up to M - 1 */
-#define HEADEND_VALUE 12 /* N_I, N_D, the number of data cells handed out, or a role */
+#define HEADEND_VALUE 12 /* N_I, N_D, the number of data cells handed out, a role, or the subcarrier of a refusal by 22 or 23 */
 
 /* The roles of a subcarrier, in the order in which the first that applies is taken. */
 #define HEADEND_EXCLUDED 1
@@ -59,6 +62,7 @@ extern "C" {
 #define HEADEND_DEPTH_MAX 32u        /* M is 1 to 32 */
 #define HEADEND_PLAN_BYTES_MAX 4096u /* a plan: 8 bytes a record, up to 512 records */
 #define HEADEND_SYMBOL_BYTES 8192u   /* a symbol: 4,096 cells */
+#define HEADEND_NUMBERS 8192u        /* a modulator symbol: two floats for each subcarrier */
 #define HEADEND_DATA_BYTES_MAX 7490u /* more data cells than N_I no symbol has */
 #define HEADEND_STACK_BYTES 131072u  /* some 73,000 were measured */
 
@@ -71,8 +75,9 @@ extern "C" {
 
 /* What a call returns: 0, or the ground that refuses it, in the words of the rules, with its place in brackets, 0 where none is named.
  * A call tries 21, then 1 to 15, along the chain 2 to 5 for each record before the next is read, then those of 16 to 20 that speak of
- * what it is given, and refuses by the first that holds. 9 to 12 count: the width of a band a to b is b - a + 1, the span is the highest
- * active subcarrier less the lowest, plus one. */
+ * what it is given, and refuses by the first that holds. headend_modulate, which is given no plan, tries 21, then 17, then 22 and 23 of
+ * each subcarrier before the next. 9 to 12 count: the width of a band a to b is b - a + 1, the span is the highest active subcarrier less
+ * the lowest, plus one. */
 #define HEADEND_ACCEPTED 0u
 /* The plan's length is below 8, above 4,096 or not a multiple of 8. */
 #define HEADEND_REFUSED_PLAN_LENGTH 1u
@@ -107,7 +112,8 @@ extern "C" {
 /* A phase, heard or subcarrier given is out of its range. */
 #define HEADEND_REFUSED_OUT_OF_RANGE 16u
 /* An emitter's store is shorter than the sum of p mod M over the N_I cells p, a receiver's than that of M - 1 - (p mod M), a symbol is
- * not 4,096 cells, or, where the answer would not be warming, the data buffer is shorter than the count. */
+ * not 4,096 cells, there are not 4,096 loads, 4,096 signs or 8,192 numbers, or, where the answer would not be warming, the data buffer is
+ * shorter than the count. */
 #define HEADEND_REFUSED_BUFFER_LENGTH 17u
 /* The emitter is given other than N_D data cells. */
 #define HEADEND_REFUSED_DATA_COUNT 18u
@@ -117,6 +123,10 @@ extern "C" {
 #define HEADEND_REFUSED_ARRIVING_CELL 20u
 /* A cell buffer of odd length or too short an answer buffer. */
 #define HEADEND_REFUSED_BUFFER_BYTES 21u
+/* A load is not listed: 1, 2, 4 and 6 to 14 are (the load, of the lowest subcarrier that 22 or 23 refuses). */
+#define HEADEND_REFUSED_LOAD 22u
+/* An unmarked cell is not below 2 to the load (its value, of the lowest subcarrier that 22 or 23 refuses). */
+#define HEADEND_REFUSED_VALUE 23u
 
 /* Judges a plan. Value: N_I. Refuses by 1 to 15 and 21. */
 HEADEND_NOT_IGNORED
@@ -162,6 +172,15 @@ HEADEND_NOT_IGNORED
 uint32_t headend_receive(const uint8_t *plan, size_t plan_len, uint32_t phase, uint32_t heard, uint8_t *store, size_t store_len,
                          const uint8_t *symbol, size_t symbol_len, uint8_t *data, size_t data_len, uint8_t *answer,
                          size_t answer_len);
+
+/* Fills a modulator symbol from a symbol on the line, as headend_emit or headend_flush leaves it: two floats for each subcarrier, first
+ * coordinate first. `loads` has a byte for each subcarrier, 1, 2, 4 or 6 to 14, pilots and silent ones too; `minus` a byte for the sign of
+ * each one's pilot, 0 for plus, any other for minus. `numbers_count` counts floats. Filler and excluded give 0 and 0, a pilot 2 or -2 and
+ * 0, data the scaled point of its value; the two floats of a PLC subcarrier are left as they are. Value: at a refusal by 22 or 23 the
+ * subcarrier. Refuses by 17 and 21 to 23. docs/MODULATOR.md tells more. */
+HEADEND_NOT_IGNORED
+uint32_t headend_modulate(const uint8_t *symbol, size_t symbol_len, const uint8_t *loads, size_t loads_len, const uint8_t *minus,
+                          size_t minus_len, float *numbers, size_t numbers_count, uint8_t *answer, size_t answer_len);
 
 /* --- helpers: they are no part of the library and decide nothing --- */
 

@@ -18,14 +18,14 @@ from pathlib import Path
 sys.dont_write_bytecode = True
 
 import plans
-from host import ANSWER, Cases, Link, some_bytes
+from host import ANSWER, SYMBOL, Cases, Link, some_bytes, some_line, to_bytes, with_line
 from stored import ROOT
 
 
 # --- wrong expectations ----------------------------------------------------
 
 def few(cases):
-    """Nine calls."""
+    """Twelve calls."""
     plan, rng = plans.near_a(M=2), random.Random(6)
     cases.name('few calls')
     cases.call('judge', plan=b'')                                       # 0
@@ -37,6 +37,10 @@ def few(cases):
     count = cases.model.count(link.at, 127)
     link.receive(data=some_bytes(rng, count, 5), answer=bytes(ANSWER))  # 7
     link.receive(data=b'\0', answer=bytes(ANSWER - 1))                  # 8
+    line = {**some_line(rng), 'symbol': to_bytes([0x8004, 0x8000, 1] + [0] * (SYMBOL - 3)), 'answer': bytes(ANSWER)}
+    cases.call('modulate', **line)                                      # 9
+    cases.call('modulate', **with_line(line, 300, 16, 4))               # 10
+    cases.call('modulate', **{**line, 'answer': bytes(ANSWER - 1)})     # 11
     return cases
 
 
@@ -52,7 +56,14 @@ BENT = ((0, None, 0, 'a refusal by another number'), (1, None, 0, 'a refusal of 
         (6, 'symbol', -1, 'another last cell on the line'),
         (7, 'data', 1, 'another cell handed out'), (7, 'data', -1, 'a byte past the data'),
         (4, 'plan', 3, 'a changed plan'), (6, 'data', 0, 'changed data'),
-        (7, 'symbol', 99, 'a changed symbol'))
+        (7, 'symbol', 99, 'a changed symbol'),
+        (9, None, 0, 'a refusal of a good symbol'), (10, None, 0, 'a refusal by another number'),
+        (9, 'numbers', 0, 'a number that is left open'), (9, 'numbers', 11, 'another sign of a pilot'),
+        (9, 'numbers', 12, 'another second number of a pilot'), (9, 'numbers', 16, 'another point'),
+        (9, 'numbers', -1, 'another last number'), (10, 'numbers', 0, 'a number of a refused symbol'),
+        (11, 'numbers', -1, 'a number beside a short answer'), (10, 'answer', 3, 'another value as the place'),
+        (10, 'answer', 14, 'another subcarrier'), (9, 'answer', 15, 'a subcarrier without a refusal'),
+        (9, 'symbol', 3, 'a changed symbol'), (9, 'loads', 5, 'changed loads'), (10, 'minus', 9, 'changed signs'))
 
 
 def bend_of(call, key, at):
@@ -60,7 +71,7 @@ def bend_of(call, key, at):
         if calls != call:
             return returned, after
         if key is None:
-            return (returned + 1) % 21, after
+            return (returned + 1) % 24, after
         data = bytearray(after[key])
         data[at] ^= 1
         return returned, {**after, key: bytes(data)}
@@ -137,6 +148,52 @@ WRONG = (
     ('((int)phase - back + PHASES) % PHASES, NULL, NULL', '((int)phase + back) % PHASES, NULL, NULL'),
     ('for (int back = emitter_places(&p, cell); back > 0; back--)', 'for (int back = 1; back <= emitter_places(&p, cell); back++)'),
     ('return data == NULL ? FILLER_MARK', 'return data == NULL ? 0'),
+    # the modulator: its lengths, grounds and answer
+    ('if (wrong_buffers(symbol_len, 0, 0, answer_len))', 'if (wrong_buffers(0, 0, 0, answer_len))'),
+    ('if (symbol_len != 2 * SUBCARRIERS || loads_len', 'if (symbol_len < 2 * SUBCARRIERS || loads_len'),
+    ('loads_len != SUBCARRIERS', 'loads_len < SUBCARRIERS'),
+    ('loads_len != SUBCARRIERS', 'loads_len > SUBCARRIERS'),
+    ('minus_len != SUBCARRIERS', 'minus_len < SUBCARRIERS'),
+    ('minus_len != SUBCARRIERS', 'minus_len > SUBCARRIERS'),
+    ('numbers_count != 2 * SUBCARRIERS', 'numbers_count < 2 * SUBCARRIERS'),
+    ('numbers_count != 2 * SUBCARRIERS', 'numbers_count / 4 != 2 * SUBCARRIERS'),
+    ('load >= 6 && load <= 14', 'load >= 5 && load <= 14'),
+    ('load == 4 || (load', 'load == 4 || load == 3 || (load'),
+    ('load == 1 || load == 2', 'load == 2'),
+    ('    if (!load_listed(load))', '    if (cell < SCATTERED_MARK && !load_listed(load))'),
+    ('    if (!load_listed(load))', '    if (load_listed(load % 16) == 0)'),
+    ('cell >= SCATTERED_MARK && cell <= PLC_MARK', 'cell >= SCATTERED_MARK && cell <= PLC_MARK + 1'),
+    ('cell >= SCATTERED_MARK && cell <= PLC_MARK', 'cell > SCATTERED_MARK && cell <= PLC_MARK'),
+    ('return cell >= 1u << load ?', 'return cell > 1u << load ?'),
+    ('return cell >= 1u << load ?', 'return cell > LAST_DATA ?'),
+    ('refuse(22, (uint32_t)load)', 'refuse(22, cell)'),
+    ('refuse(23, cell)', 'refuse(23, (uint32_t)load)'),
+    ('say(answer, r, NO_STATE, (uint32_t)k)', 'say(answer, r, NO_STATE, 0)'),
+    ('refuse(17, 0), NO_STATE, 0);\n    for (size_t k = 0; k < SUBCARRIERS; k++) {',
+     'refuse(17, 0), NO_STATE, 0);\n    for (size_t k = SUBCARRIERS; k-- > 0;) {'),
+    ('            return say(answer, r, NO_STATE, (uint32_t)k);\n',
+     '            return say(answer, r, NO_STATE, (uint32_t)k);\n'
+     '        put_line(numbers + 2 * k, get(symbol, k), loads[k], minus[k] != 0);\n'),
+    # what stands on the line
+    ('gray(m - 1, x >> 1)', 'gray(m - 1, x & ((1u << (m - 1)) - 1))'),
+    ('gray(n, lower), gray(n, upper)', 'gray(n, upper), gray(n, lower)'),
+    ('return cross(n, gray(n + 1, upper), gray(n, lower))', 'return (struct point){gray(n + 1, upper), gray(n, lower)}'),
+    ('magnitude(i) < 3 * s', 'magnitude(i) < 2 * s'),
+    ('sign(q) * (4 * s - magnitude(q))', 'sign(q) * (2 * s - magnitude(q))'),
+    ('sign(q) * (magnitude(q) + 2 * s)', 'magnitude(q) + 2 * s'),
+    ('0.11043153f', '0.11043154f'),
+    ('(float)at.x * FACTOR[load]', '(float)at.x * FACTOR[load] * 1.0000001f'),
+    ('    if (cell == PLC_MARK)\n        return;\n', ''),
+    ('    if (cell == PLC_MARK)\n        return;\n',
+     '    if (cell == PLC_MARK) {\n        volatile float one = 1.0f;\n        numbers[1] *= one;\n        return;\n    }\n'),
+    ('cell != FILLER_MARK && cell != EXCLUDED_MARK', 'cell != FILLER_MARK'),
+    ('cell == SCATTERED_MARK || cell == CONTINUOUS_MARK', 'cell == SCATTERED_MARK || cell == FILLER_MARK || cell == CONTINUOUS_MARK'),
+    ('minus ? -2.0f : 2.0f', '-2.0f'),
+    ('minus ? -2.0f : 2.0f', 'minus ? -1.0f : 1.0f'),
+    ('numbers[1] = 0.0f', 'numbers[1] = -0.0f'),
+    ('numbers[1] = 0.0f', '(void)0'),
+    ('minus[k] != 0', 'minus[k] == 1'),
+    ('minus[k] != 0', 'minus[k] & 1'),
 )
 
 
@@ -145,6 +202,7 @@ WRONG_HEADER = (
     ('VERSION 3', 'VERSION 2'), ('CELL_FILLER 0x8001u', 'CELL_FILLER 0x8002u'), ('CELL_DATA_MAX 16383u', 'CELL_DATA_MAX 16384u'),
     ('HEADEND_HEARD 8 ', 'HEADEND_HEARD 12 '), ('HEADEND_VALUE 12', 'HEADEND_VALUE 16'), ('HEADEND_SCATTERED 4', 'HEADEND_SCATTERED 5'),
     ('HEADEND_REFUSED_RECORD_KIND 2u', 'HEADEND_REFUSED_RECORD_KIND 3u'), ('BUFFER_BYTES 21u', 'BUFFER_BYTES 20u'),
+    ('REFUSED_LOAD 22u', 'REFUSED_LOAD 23u'), ('REFUSED_VALUE 23u', 'REFUSED_VALUE 22u'), ('NUMBERS 8192u', 'NUMBERS 4096u'),
     ('DEPTH_MAX 32u', 'DEPTH_MAX 31u'), ('DATA_BYTES_MAX 7490u', 'DATA_BYTES_MAX 7488u'),
     ('EMITTER_STORE_BYTES_MAX 116064u', 'EMITTER_STORE_BYTES_MAX 116126u'),
     ('RECEIVER_STORE_BYTES_MAX 116126u', 'RECEIVER_STORE_BYTES_MAX 116064u'), ('+ rest * rest - rest;', '+ rest * rest;'),

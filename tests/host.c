@@ -31,6 +31,7 @@ static const struct {
     NAME(HEADEND_CELL_DATA_MAX), NAME(HEADEND_CELL_SCATTERED), NAME(HEADEND_CELL_FILLER), NAME(HEADEND_CELL_EXCLUDED),
     NAME(HEADEND_CELL_CONTINUOUS), NAME(HEADEND_CELL_PLC),
     NAME(HEADEND_SUBCARRIERS), NAME(HEADEND_PHASES), NAME(HEADEND_DEPTH_MAX), NAME(HEADEND_PLAN_BYTES_MAX), NAME(HEADEND_SYMBOL_BYTES),
+    NAME(HEADEND_NUMBERS),
     NAME(HEADEND_EMITTER_STORE_BYTES_MAX), NAME(HEADEND_RECEIVER_STORE_BYTES_MAX), NAME(HEADEND_DATA_BYTES_MAX), NAME(HEADEND_STACK_BYTES),
     NAME(HEADEND_ACCEPTED), NAME(HEADEND_REFUSED_PLAN_LENGTH), NAME(HEADEND_REFUSED_RECORD_KIND), NAME(HEADEND_REFUSED_NEXT_INDEX),
     NAME(HEADEND_REFUSED_RECORD_NUMBERS), NAME(HEADEND_REFUSED_PILOT_COUNT), NAME(HEADEND_REFUSED_ACTIVE_OUTSIDE),
@@ -39,10 +40,11 @@ static const struct {
     NAME(HEADEND_REFUSED_WINDOW_OF_120), NAME(HEADEND_REFUSED_WINDOW_OF_20), NAME(HEADEND_REFUSED_RANKS),
     NAME(HEADEND_REFUSED_OUT_OF_RANGE), NAME(HEADEND_REFUSED_BUFFER_LENGTH), NAME(HEADEND_REFUSED_DATA_COUNT),
     NAME(HEADEND_REFUSED_DATA_CELL), NAME(HEADEND_REFUSED_ARRIVING_CELL), NAME(HEADEND_REFUSED_BUFFER_BYTES),
+    NAME(HEADEND_REFUSED_LOAD), NAME(HEADEND_REFUSED_VALUE),
 };
 
-enum { SLOTS = 7, BUFFERS = 5, NUMBERS = 2, GUARD = 64, GUARD_BYTE = 0x5A, PAGE = 65536, ROOM = 1 << 21, GROUNDS = 21, STACK = 1 << 20 };
-enum { JUDGE, ROLE, DATA_COUNT, FRESH_EMITTER, FRESH_RECEIVER, EMIT, FLUSH, RECEIVE, CALLS };
+enum { SLOTS = 10, BUFFERS = 5, NUMBERS = 2, GUARD = 64, GUARD_BYTE = 0x5A, PAGE = 65536, ROOM = 1 << 21, GROUNDS = 23, STACK = 1 << 20 };
+enum { JUDGE, ROLE, DATA_COUNT, FRESH_EMITTER, FRESH_RECEIVER, EMIT, FLUSH, RECEIVE, MODULATE, CALLS };
 enum { GUARDED, OWN_BLOCK, PAGE_BEHIND, PAGE_BEFORE, NULL_IF_EMPTY, WAYS };
 /* The helpers. */
 enum { NUMBER, CELL, PUT_CELL, LOWEST_PLC, DEPTH, EMITTER_STORE_BYTES, RECEIVER_STORE_BYTES, MARK, SYMBOL_PHASE };
@@ -60,6 +62,7 @@ static const struct {
     {"emit", 1, 5, {"plan", "store", "data", "symbol", "answer"}},
     {"flush", 1, 4, {"plan", "store", "symbol", "answer"}},
     {"receive", 2, 5, {"plan", "store", "symbol", "data", "answer"}},
+    {"modulate", 0, 5, {"symbol", "loads", "minus", "numbers", "answer"}},
 };
 
 static const char *const WAY[WAYS] = {"between guard bytes", "in its own block", "with a page behind", "with a page before",
@@ -340,8 +343,11 @@ static uint32_t make_call(const struct call *c, const struct lent *b)
         return headend_emit(b[0].at, len[0], n[0], b[1].at, len[1], b[2].at, len[2], b[3].at, len[3], b[4].at, len[4]);
     case FLUSH:
         return headend_flush(b[0].at, len[0], n[0], b[1].at, len[1], b[2].at, len[2], b[3].at, len[3]);
-    default:
+    case RECEIVE:
         return headend_receive(b[0].at, len[0], n[0], n[1], b[1].at, len[1], b[2].at, len[2], b[3].at, len[3], b[4].at, len[4]);
+    default: /* numbers are counted, and aligned in every way of lending */
+        return headend_modulate(b[0].at, len[0], b[1].at, len[1], b[2].at, len[2], (float *)(void *)b[3].at, len[3] / sizeof(float),
+                                b[4].at, len[4]);
     }
 }
 
@@ -440,9 +446,9 @@ static void end(void)
     if (returned != run.returned)
         fail("numbers %06lx were returned, wanted %06lx", (unsigned long)run.returned, (unsigned long)returned);
     if (null != run.null)
-        fail("buffers %07lx were NULL, wanted %07lx", (unsigned long)run.null, (unsigned long)null);
+        fail("buffers %08lx were NULL, wanted %08lx", (unsigned long)run.null, (unsigned long)null);
     printf("host: %lu calls, %s, each in 4 ways, %lu also with NULL, %llu bytes and %lu names compared", (unsigned long)run.calls,
-           returned == all ? "grounds 1..21 each reached" : "not all grounds reached", (unsigned long)run.nulls, run.bytes,
+           returned == all ? "grounds 1..23 each reached" : "not all grounds reached", (unsigned long)run.nulls, run.bytes,
            (unsigned long)run.names);
     if (own.bottom != NULL) {
         printf(", %zu bytes of stack used", stack_used());

@@ -3,14 +3,16 @@
 
     python3 tests/host.py FILE             writes all cases
     python3 tests/host.py --small FILE     writes fewer, for a run under valgrind
+    python3 tests/host.py --example PLAN   prints what examples/modulate.c has to print of a plan
 
 Every number and byte that is expected comes from the second model (model.py, emitter.py,
-receiver.py), read as change request 01 says: two bytes a cell, high byte first, ground 21 before
-all others, four numbers of four bytes in the answer.
+receiver.py, points.py), read as change request 01 says: two bytes a cell, high byte first, ground 21
+before all others, four numbers of four bytes in the answer.
 
-A case file is a list of items; a number is four bytes, high byte first.  Slots 0 to 6 hold the
+A case file is a list of items; a number is four bytes, high byte first.  Slots 0 to 9 hold the
 buffers: 0 the plan, 1 an emitter's store, 2 a receiver's, 3 data to be sent, 4 the symbol, 5 data
-received, 6 the answer.
+received, 6 the answer, 7 the loads, 8 the signs of the pilots, 9 the modulator symbol as the
+machine has it, four bytes a number.
 
     1, number, bytes                    the name of the cases that follow, so many bytes
     2, slot, number                     the slot has so many bytes: the last are left out, or zeros added
@@ -33,13 +35,15 @@ import random
 import re
 import sys
 from array import array
-from collections import defaultdict
+from collections import Counter, defaultdict
+from functools import lru_cache
 
 sys.dont_write_bytecode = True
 
 import compare
 import loss
 import plans
+import points
 from emitter import emitter_length
 from receiver import Receiver, receiver_length
 from stored import ROOT
@@ -49,7 +53,8 @@ SYMBOL = 4096
 TOP = 2 ** 32 - 1
 ODD_NUMBERS = (0x12345678, 0x9ABCDEF0)      # no byte as another
 BLOCK = 256
-PLAN, SENDING, LISTENING, GIVEN, LINE, HANDED, SAID = range(7)
+PLAN, SENDING, LISTENING, GIVEN, LINE, HANDED, SAID, LOADS, SIGNS, NUMBERS = range(10)
+OF_CELLS = ('store', 'data', 'symbol')
 ROLES = ('excluded', 'plc', 'continuous', 'scattered', 'data')
 
 # Of each call: how many numbers it takes, its buffers, how many of its numbers are a state, its grounds.
@@ -62,6 +67,7 @@ CALLS = {
     'emit': (1, 'plan store data symbol answer', 1, {*range(1, 20), 21}),
     'flush': (1, 'plan store symbol answer', 1, {*range(1, 18), 21}),
     'receive': (2, 'plan store symbol data answer', 2, {*range(1, 18), 20, 21}),
+    'modulate': (0, 'symbol loads minus numbers answer', 0, {17, 21, 22, 23}),
 }
 
 BUFFERS = [(name, key) for name, (_, buffers, *_) in CALLS.items() for key in buffers.split()]
@@ -71,7 +77,7 @@ HEADER = ROOT / 'include' / 'headend.h'
 GROUNDS = ('PLAN_LENGTH', 'RECORD_KIND', 'NEXT_INDEX', 'RECORD_NUMBERS', 'PILOT_COUNT', 'ACTIVE_OUTSIDE',
            'EXCLUDED_AROUND_PLC', 'PILOT_TAKEN', 'NARROW_BAND', 'NO_WIDE_BAND', 'EXCLUDED_IN_SPAN',
            'EXCLUDED_IN_BAND', 'WINDOW_OF_120', 'WINDOW_OF_20', 'RANKS', 'OUT_OF_RANGE', 'BUFFER_LENGTH',
-           'DATA_COUNT', 'DATA_CELL', 'ARRIVING_CELL', 'BUFFER_BYTES')
+           'DATA_COUNT', 'DATA_CELL', 'ARRIVING_CELL', 'BUFFER_BYTES', 'LOAD', 'VALUE')
 
 
 def number(n):
@@ -98,6 +104,8 @@ class Interface(Receiver):
     def __init__(self):
         super().__init__()
         self.judged = {}
+        self.points = points.Points()
+        self.points.on_line = lru_cache(maxsize=None)(self.points.on_line)
 
     def judge(self, plan):
         if plan not in self.judged:
@@ -109,14 +117,17 @@ class Interface(Receiver):
         state = numbers if CALLS[name][2] else ()
         if len(given['answer']) < ANSWER:
             return 21, given
-        lent = {key: given[key] for key in given if key not in ('plan', 'answer')}
+        lent = {key: data for key, data in given.items() if key in OF_CELLS}
         if any(len(data) % 2 for data in lent.values()):
             return 21, self.said(given, 0, state)
         cells = {key: to_cells(data) for key, data in lent.items()}
-        answer = getattr(self, 'call_' + name)(given['plan'], *numbers, **cells)
+        singles = {key: array('I', data) for key, data in given.items() if key == 'numbers'}
+        others = {key: data for key, data in given.items() if key not in (*OF_CELLS, 'numbers', 'answer')}
+        answer = getattr(self, 'call_' + name)(*numbers, **others, **cells, **singles)
         if answer[0] == 'refused':
-            return answer[1], self.said(given, answer[2], state)
+            return answer[1], self.said(given, answer[2], state, answer[3] if name == 'modulate' else 0)
         left = {key: to_bytes(data) for key, data in cells.items()}
+        left.update((key, data.tobytes()) for key, data in singles.items())
         return 0, self.said({**given, **left}, 0, *answer)
 
     def said(self, given, place, state=(), value=0):
@@ -124,40 +135,47 @@ class Interface(Receiver):
         four = [place, *(*state, 0, 0)[:2], value]
         return {**given, 'answer': b''.join(map(number, four)) + given['answer'][ANSWER:]}
 
-    # Each is given cells and answers the model's refusal, or the next state and a value.
+    # Each is given cells and answers the model's refusal, or the next state and a value.  That of
+    # the modulator is given the numbers as their 32 bits, and its refusal tells the subcarrier.
 
     def call_judge(self, plan):
         answer = self.verdict(plan)
         return answer if answer[0] == 'refused' else ((), answer[1])
 
-    def call_role(self, plan, subcarrier, phase):
+    def call_role(self, subcarrier, phase, plan):
         answer = self.role(plan, subcarrier, phase)
         return answer if isinstance(answer, tuple) else ((), 1 + ROLES.index(answer))
 
-    def call_data_count(self, plan, phase):
+    def call_data_count(self, phase, plan):
         answer = self.data_count(plan, phase)
         return answer if isinstance(answer, tuple) else ((), answer)
 
-    def call_fresh_emitter(self, plan, phase, store):
+    def call_fresh_emitter(self, phase, plan, store):
         answer = self.fresh(plan, phase, store)
         return answer if answer[0] == 'refused' else (answer[1:], 0)
 
-    def call_fresh_receiver(self, plan, phase, store):
+    def call_fresh_receiver(self, phase, plan, store):
         answer = self.listen(plan, phase, store)
         return answer if answer[0] == 'refused' else (answer[1:], 0)
 
-    def call_emit(self, plan, phase, store, data, symbol):
+    def call_emit(self, phase, plan, store, data, symbol):
         answer = self.step(plan, phase, store, data, symbol)
         return answer if answer[0] == 'refused' else (answer[1:], 0)
 
-    def call_flush(self, plan, phase, store, symbol):
-        return self.call_emit(plan, phase, store, None, symbol)
+    def call_flush(self, phase, plan, store, symbol):
+        return self.call_emit(phase, plan, store, None, symbol)
 
-    def call_receive(self, plan, phase, heard, store, symbol, data):
+    def call_receive(self, phase, heard, plan, store, symbol, data):
         answer = self.receive(plan, phase, heard, store, symbol, data)
         if answer[0] == 'refused':
             return answer
         return answer[-2:], answer[1] if answer[0] == 'data' else 0
+
+    def call_modulate(self, symbol, loads, minus, numbers):
+        bits = numbers.tolist()
+        answer = self.points.modulate(symbol, loads, minus, bits)
+        numbers[:] = array('I', bits)
+        return answer if answer[0] == 'refused' else ((), 0)
 
 
 # --- the case file ---------------------------------------------------------
@@ -222,7 +240,8 @@ class Cases:
         """The slot of each buffer of a call."""
         hears = name in ('receive', 'fresh_receiver')
         of = {'plan': PLAN, 'store': LISTENING if hears else SENDING,
-              'data': HANDED if hears else GIVEN, 'symbol': LINE, 'answer': SAID}
+              'data': HANDED if hears else GIVEN, 'symbol': LINE, 'answer': SAID,
+              'loads': LOADS, 'minus': SIGNS, 'numbers': NUMBERS}
         return {key: of[key] for key in CALLS[name][1].split()}
 
     def header_name(self, name, value):
@@ -426,7 +445,7 @@ def names_of(limits):
             **{name.upper(): 1 + i for i, name in enumerate(ROLES)},
             **{'CELL_' + name: mark for name, mark in marks.items()},
             'SUBCARRIERS': limits.last_subcarrier + 1, 'PHASES': limits.phases, 'DEPTH_MAX': limits.highest_m,
-            'PLAN_BYTES_MAX': limits.longest, 'SYMBOL_BYTES': 2 * limits.cells,
+            'PLAN_BYTES_MAX': limits.longest, 'SYMBOL_BYTES': 2 * limits.cells, 'NUMBERS': 2 * limits.cells,
             **{end + '_STORE_BYTES_MAX': 2 * length(limits.most_ranks, limits.highest_m)
                for end, length in largest.items()}, 'DATA_BYTES_MAX': 2 * limits.most_ranks, 'STACK_BYTES': 131072, 'ACCEPTED': 0,
             **{'REFUSED_' + name: 1 + i for i, name in enumerate(GROUNDS)}}
@@ -503,12 +522,17 @@ def counts(cases, phases):
             assert cases.call('data_count', phase, plan=plan)[0] == 16
 
 
+def of_plans():
+    """The calls that are given a plan."""
+    return [(name, call) for name, call in CALLS.items() if 'plan' in call[1].split()]
+
+
 def refused_plans(cases):
-    """Every call refused by each of 1 to 15, and by 21 before."""
+    """Every call of a plan refused by each of 1 to 15, and by 21 before."""
     rng = random.Random(3)
     for ground in range(1, 16):
         plan = (ROOT / 'plans' / ('refused-%02d.plan' % ground)).read_bytes()
-        for name, (takes, buffers, *_) in CALLS.items():
+        for name, (takes, buffers, *_) in of_plans():
             cases.name('%s refused by %d' % (name, ground))
             # Good buffers of Plan A, then short ones and numbers out of range.
             for cells, n in (({'store': 639, 'data': 421, 'symbol': SYMBOL}, 3), ({}, TOP)):
@@ -613,13 +637,13 @@ def runs(cases, depths, large, all_wrong, long):
 
 
 def empty_buffers(cases):
-    """Each call with each of its buffers empty, and with all of them: tests/host.c passes NULL for it."""
+    """Each call of a plan with each of its buffers empty, and with all of them: tests/host.c passes NULL for it."""
     plan, rng = plans.near_a(M=2), random.Random(9)
     link = Link(cases, plan, 60, 3)
     link.send()
     cases.name('empty buffers')
     refused = {'plan': 1, 'store': 17, 'symbol': 17, 'data': 18, 'answer': 21}
-    for name, (takes, buffers, *_) in CALLS.items():
+    for name, (takes, buffers, *_) in of_plans():
         data = some_data(rng, cases.model.count(link.at, 60)) if name == 'emit' else some_bytes(rng, link.at.n)
         hears = name in ('receive', 'fresh_receiver')
         full = {'plan': plan, 'store': link.listening if hears else link.sending, 'data': data, 'symbol': link.symbol,
@@ -674,6 +698,161 @@ def losses(cases):
         link.listening, link.state = after['store'], link.next_state(after['answer'], 2)
 
 
+# --- the modulator ---------------------------------------------------------
+
+UNLISTED = (0, 3, 5, 15, 16, 17, 32, 38, 128, 255)
+# Numbers that a call has to leave as they are: both zeros, the least, infinities, NaNs of both kinds.
+ODD_SINGLES = (0, 0x80000000, 1, 0x807FFFFF, 0x7F800000, 0xFF800000, 0x7FC00000, 0xFFC12345, 0x7F800001, 0xFFBFFFFF, 0x3F400000)
+
+
+def some_singles(rng, count=2 * SYMBOL):
+    """So many numbers of any bits, one in four of them an odd one."""
+    bits = array('I', rng.randbytes(4 * count))
+    for i in range(0, count, 4):
+        bits[i + rng.randrange(min(4, count - i))] = rng.choice(ODD_SINGLES)
+    return bits.tobytes()
+
+
+def some_line(rng, marks=0.3):
+    """What modulate is given: each subcarrier with some load, a value below 2 to it or a mark, and a sign."""
+    loads = bytes(rng.choice(points.Points.loads) for _ in range(SYMBOL))
+    cells = [rng.choice(points.MARKS) if rng.random() < marks else rng.choice((0, 2 ** m - 1, rng.randrange(2 ** m)))
+             for m in loads]
+    return {'symbol': to_bytes(cells), 'loads': loads, 'minus': bytes(rng.choice((0, 0, 1, 2, 128, 255)) for _ in loads),
+            'numbers': some_singles(rng)}
+
+
+def with_line(given, k, cell=None, load=None):
+    """With another cell or load at subcarrier k."""
+    symbol = given['symbol'] if cell is None else with_cell(given['symbol'], k, cell)
+    loads = given['loads'] if load is None else given['loads'][:k] + bytes([load]) + given['loads'][k + 1:]
+    return {**given, 'symbol': symbol, 'loads': loads}
+
+
+def modulate(cases, want, given):
+    """A call, and what it has to return, with place and subcarrier where it is refused."""
+    returned, after = cases.call('modulate', **given)
+    answer = after['answer']
+    if len(answer) >= ANSWER:
+        assert (returned, int.from_bytes(answer[:4], 'big'), value_of(answer)) == (*want, 0, 0, 0)[:3], (want, returned)
+    assert returned == want[0] and (returned == 0 or after['numbers'] == given['numbers']), (want, returned)
+
+
+def every_point(rng):
+    """Lines with every value of every load."""
+    all_values = [(value, load) for load in points.Points.loads for value in range(2 ** load)]
+    all_values += [(0x8000 + i % 5, 6) for i in range(-len(all_values) % SYMBOL)]
+    for i in range(0, len(all_values), SYMBOL):
+        cells, loads = zip(*all_values[i:i + SYMBOL])
+        yield {**some_line(rng), 'symbol': to_bytes(cells), 'loads': bytes(loads)}
+
+
+def modulations(cases, some, every):
+    """Symbols on the line of all marks and loads; every value of every load; what an emitter sends."""
+    rng = random.Random(14)
+    cases.name('modulator symbols')
+    for i in range(some):
+        modulate(cases, (0,), some_line(rng, (0.3, 0.02, 0.9)[i % 3]))
+    for mark in points.MARKS:
+        modulate(cases, (0,), {**some_line(rng), 'symbol': to_bytes([mark] * SYMBOL)})
+    for line in every_point(rng) if every else ():
+        modulate(cases, (0,), line)
+    cases.name('modulator symbols of emitted ones')
+    for plan, start in ((plans.near_a(M=3), 126), (at_depth(plans.LARGEST, 2), 64)):
+        link = Link(cases, plan, start, 15)
+        for t in range(4):
+            link.send(t == 2)
+            given = {**some_line(rng), 'symbol': link.symbol, 'loads': bytes([14] * SYMBOL)}
+            modulate(cases, (0,), given)
+            k, cell = rng.choice([(k, cell) for k, cell in enumerate(to_cells(link.symbol)) if cell not in points.MARKS])
+            short = [load for load in points.Points.loads if 2 ** load <= cell]
+            modulate(cases, (0,), with_line(given, k, load=points.Points.loads[len(short)]))
+            for load in short[-1:]:
+                modulate(cases, (23, cell, k), with_line(given, k, load=load))
+
+
+def refused_lines(cases, subcarriers):
+    """22 and 23 at these subcarriers, of each load and each kind of cell, and several in one symbol."""
+    rng, good = random.Random(15), {**some_line(random.Random(16)), 'answer': bytes(ANSWER)}
+    for k in subcarriers:
+        cases.name('refused at subcarrier %d' % k)
+        load, bad = rng.choice(points.Points.loads), rng.choice(UNLISTED)
+        modulate(cases, (22, bad, k), with_line(good, k, 0, bad))
+        modulate(cases, (22, bad, k), with_line(good, k, rng.choice(points.MARKS), bad))
+        modulate(cases, (22, bad, k), with_line(good, k, 0x8005, bad))                      # 22 before 23
+        modulate(cases, (23, 2 ** load, k), with_line(good, k, 2 ** load, load))
+        modulate(cases, (23, 0x8005, k), with_line(good, k, 0x8005, load))
+    cases.name('each load that is not listed, each mark, and each limit')
+    for load in UNLISTED:
+        modulate(cases, (22, load, 99), with_line(good, 99, 0, load))
+    for mark in points.MARKS:
+        modulate(cases, (22, 3, 1000), with_line(good, 1000, mark, 3))
+    for load in points.Points.loads:
+        k = rng.randrange(SYMBOL)
+        modulate(cases, (0,), with_line(good, k, 2 ** load - 1, load))
+        modulate(cases, (23, 2 ** load, k), with_line(good, k, 2 ** load, load))
+    for cell in (16384, 0x7FFF, 0x8005, 0x8010, 0x9000, 65535):
+        modulate(cases, (23, cell, 2000), with_line(good, 2000, cell, 14))
+    cases.name('several refusals in one symbol')
+    for a, b in ((0, 4095), (7, 8), (15, 16), (2047, 3000)):
+        modulate(cases, (22, 5, a), with_line(with_line(good, a, 0, 5), b, 64, 6))
+        modulate(cases, (23, 64, a), with_line(with_line(good, b, 0, 5), a, 64, 6))
+        modulate(cases, (22, 3, a), with_line(with_line(good, a, 0, 3), b, 0, 5))
+        modulate(cases, (23, 9999, a), with_line(with_line(good, a, 9999, 13), b, 2, 1))
+    modulate(cases, (22, 0, 0), {**good, 'loads': bytes(SYMBOL)})
+    modulate(cases, (23, 65535, 0), {**good, 'symbol': b'\xFF' * 2 * SYMBOL})
+
+
+def modulate_lengths(cases):
+    """Each buffer one longer, one shorter and empty; 21 before 17, 17 before 22 and 23; short answers."""
+    good = some_line(random.Random(17))
+    bad = with_line(with_line(good, 0, 65535, 6), 1, 0, 5)
+    cases.name('the lengths of what modulate is given')
+    steps = {'symbol': 2, 'loads': 1, 'minus': 1, 'numbers': 4}
+    for given in (good, bad):
+        for key, step in steps.items():
+            for data in (given[key][:-step], given[key] + bytes(step), b'', given[key] * 2, given[key][:len(given[key]) // 2]):
+                modulate(cases, (17,), {**given, key: data})
+        for data in (given['symbol'][:-1], given['symbol'] + b'\0', b'\0'):
+            modulate(cases, (21,), {**given, 'symbol': data})
+            modulate(cases, (21,), {**given, 'symbol': data, 'loads': b'', 'numbers': b''})
+        for room in (0, 1, ANSWER - 1):
+            for other in ({}, {'symbol': b'\0'}, {'minus': b''}):
+                modulate(cases, (21,), {**given, **other, 'answer': b'\x5A' * room})
+    empty = dict.fromkeys(steps, b'')
+    modulate(cases, (17,), {**empty, 'answer': bytes(ANSWER)})
+    modulate(cases, (21,), {**empty, 'answer': b''})
+    modulate(cases, (0,), {**good, 'answer': b'\x5A' * 999})
+
+
+def example(path):
+    """What examples/modulate.c prints of a plan."""
+    model, plan = Interface(), open(path, 'rb').read()
+    at, phase = model.layout(plan), 125
+    store, symbol = bytes(2 * emitter_length(at.n, at.m)), bytes(2 * SYMBOL)
+    store = model.call('fresh_emitter', (phase,), {'plan': plan, 'store': store, 'answer': bytes(ANSWER)})[1]['store']
+    given = {'loads': bytes(6 + k % 9 for k in range(SYMBOL)), 'minus': bytes(k % 2 for k in range(SYMBOL)),
+             'numbers': bytes(8 * SYMBOL), 'answer': bytes(ANSWER)}
+    for t in range(at.m):
+        data = to_bytes([(t * 4099 + i * 31) % 64 for i in range(model.count(at, phase))])
+        after = model.call('emit', (phase,), {'plan': plan, 'store': store, 'data': data, 'symbol': symbol,
+                                              'answer': bytes(ANSWER)})[1]
+        store, symbol = after['store'], after['symbol']
+        lines = [model.points.on_line(*line) for line in zip(to_cells(symbol), given['loads'], given['minus'])]
+        kinds = Counter(line[0] if line[0] != 'pilot' else points.number(line[1]) for line in lines)
+        print('phase %d: %d silent, %d open, %d pilots plus and %d minus, %d points'
+              % (phase, kinds['silent'], kinds['open'], kinds[2], kinds[-2], kinds['point']))
+        phase = (phase + 1) % 128
+    k, (_, x, y) = next((k, line) for k, line in enumerate(lines) if line[0] == 'point')
+    print('subcarrier %d, load %d, value %d: %.9g %.9g'
+          % (k, given['loads'][k], to_cells(symbol)[k], points.number(x), points.number(y)))
+    returned, after = model.call('modulate', (), with_line({**given, 'symbol': symbol}, k, load=5))
+    print('load 5: refused by %d at %d, subcarrier %d'
+          % (returned, int.from_bytes(after['answer'][:4], 'big'), value_of(after['answer'])))
+
+
+# --- the pages -------------------------------------------------------------
+
 def check_words():
     """docs/C-HOST.md has the header's names of the grounds, with the same words and in their order."""
     header = re.findall(r'/\* ((?:[^*]|\*[^/])*) \*/\n#define HEADEND_REFUSED_(\w+) (\d+)u', HEADER.read_text())
@@ -686,18 +865,43 @@ def check_words():
 
 
 def check_page():
-    """The four answers that docs/C-HOST.md shows."""
+    """The five answers that docs/C-HOST.md shows."""
     model, a, page = Interface(), plans.PLAN_A, (ROOT / 'docs' / 'C-HOST.md').read_text()
     count = model.data_count(a, 126)
     steps = {'plan': a, 'store': bytes(2 * 636), 'symbol': bytes(2 * SYMBOL)}
     data = bytes(2 * count)
+    line = {'symbol': to_bytes([64 if k == 900 else 0x8002 for k in range(SYMBOL)]), 'loads': bytes([6] * SYMBOL),
+            'minus': bytes(SYMBOL), 'numbers': bytes(8 * SYMBOL)}
     for name, numbers, given in (('judge', (), {'plan': a}),
                                  ('judge', (), {'plan': plans.near_a([(850, 854)])}),
                                  ('emit', (126,), {**steps, 'data': with_cell(data, 7, 16384)}),
-                                 ('emit', (126,), {**steps, 'data': data})):
+                                 ('emit', (126,), {**steps, 'data': data}), ('modulate', (), line)):
         returned, after = model.call(name, numbers, {**given, 'answer': bytes(ANSWER)})
         shown = '| %d | `%s`' % (returned, after['answer'].hex(' ', 4).upper())
         assert shown in page, 'docs/C-HOST.md should have ' + shown
+
+
+def check_rows():
+    """The rows of docs/MODULATOR.md: each is what the model says of the cell, the load and the sign byte, and there is one for
+    each load, each mark, each sign of a pilot, 22 and 23.  The table of the loads is the model's too."""
+    page, model, shown = (ROOT / 'docs' / 'MODULATOR.md').read_text(), points.Points(), set()
+    for cell, load, byte, first, second in re.findall(r'^\| `(\w{4})` [^|]*\| (\d+) \| (\d+) \| ([^|]*) \| ([^|]*) \|', page, re.M):
+        kind, *wanted = model.on_line(int(cell, 16), int(load), int(byte) != 0)
+        if kind == 'refused':
+            shown.add(wanted[0])
+            wanted = ['refused by %d, place %d' % tuple(wanted), '\u2013']
+        else:
+            shown.add((kind, {'point': load, 'pilot': cell + ('-' if int(byte) else '+')}.get(kind, cell)))
+            bits = {'silent': (0, 0), 'open': None, 'pilot': (*wanted, 0)}.get(kind, wanted)
+            wanted = ['%.9g `%08X`' % (points.number(b), b) for b in bits] if bits else ['as it was'] * 2
+        assert [first, second] == wanted, (cell, load, wanted)
+    assert shown == {22, 23, ('silent', '8001'), ('silent', '8002'), ('open', '8004'),
+                     *(('pilot', mark + byte) for mark in ('8000', '8003') for byte in '+-'),
+                     *(('point', str(load)) for load in model.loads)}, shown
+    for load in model.loads:
+        ends = model.point(load, 0), model.point(load, 2 ** load - 1)
+        row = '| %d | %d | %d | `%08X` | %s | %s |' % (load, model.roots[load - 1], points.furthest(load), model.factor(load), *ends)
+        assert row in page, 'docs/MODULATOR.md should have ' + row
 
 
 def check_reached(cases):
@@ -719,11 +923,15 @@ def write(path, small):
     store_lengths(cases, (1, 2, 31) if small else (1, 2, 3, 4, 7, 31, 32))
     empty_buffers(cases)
     losses(cases)
+    modulations(cases, 3 if small else 30, not small)
+    refused_lines(cases, (0, 15, 4095) if small else (0, 1, 7, 8, 15, 16, 255, 2047, 2048, 4094, 4095))
+    modulate_lengths(cases)
     any_states(cases, (1, 31) if small else (1, 2, 3, 4, 7, 16, 31, 32))
     runs(cases, (1, 3, 4) if small else range(1, 33), (2,) if small else (1, 2, 3, 4, 7, 31, 32),
          (1, 4) if small else (1, 2, 4, 7), 5 if small else 140)
     check_reached(cases)
     check_page()
+    check_rows()
     check_words()
     if not small:
         thousands = '%d,000 calls' % (cases.calls // 1000)
@@ -736,6 +944,8 @@ def main():
     arguments = sys.argv[1:]
     if len(arguments) == 2 and arguments[0] == '--small':
         write(arguments[1], True)
+    elif len(arguments) == 2 and arguments[0] == '--example':
+        example(arguments[1])
     elif len(arguments) == 1 and not arguments[0].startswith('-'):
         write(arguments[0], False)
     else:

@@ -14,7 +14,7 @@ sanitizers="-g -O1 -fsanitize=address,undefined -fno-sanitize-recover=all"
 
 # The header's names as those of another implementation.
 names() {
-    for call in judge role data_count fresh_emitter fresh_receiver emit flush receive; do
+    for call in judge role data_count fresh_emitter fresh_receiver emit flush receive modulate; do
         echo "-Dheadend_$call=$1_$call"
     done
 }
@@ -55,8 +55,8 @@ the_header() {
     done
     cat > "$work/ignored.c" << 'END'
 #include "headend.h"
-void ignored(uint8_t *b);
-void ignored(uint8_t *b)
+void ignored(uint8_t *b, float *numbers);
+void ignored(uint8_t *b, float *numbers)
 {
     headend_judge(b, 0, b, 0);
     headend_role(b, 0, 0, 0, b, 0);
@@ -66,11 +66,12 @@ void ignored(uint8_t *b)
     headend_emit(b, 0, 0, b, 0, b, 0, b, 0, b, 0);
     headend_flush(b, 0, 0, b, 0, b, 0, b, 0);
     headend_receive(b, 0, 0, 0, b, 0, b, 0, b, 0, b, 0);
+    headend_modulate(b, 0, b, 0, b, 0, numbers, 0, b, 0);
 }
 END
     local warned
     warned=$(LC_ALL=C gcc -Iinclude -c "$work/ignored.c" -o "$work/ignored.o" 2>&1 | grep -c 'ignoring return value' || true)
-    [ "$warned" -eq 8 ] || fail "$warned of 8 ignored numbers are warned of"
+    [ "$warned" -eq 9 ] || fail "$warned of 9 ignored numbers are warned of"
 }
 
 # The cases, the two C implementations, wrong programs and wrong headers.
@@ -100,10 +101,10 @@ without_library() {
     done
 }
 
-# What examples/trunks.c prints of a plan is what the second model says.
-trunks() {
-    "$work/trunks" "$1" > "$work/said" || fail "examples/trunks.c ended with $? on $1"
-    python3 tests/loss.py --trunks "$1" | diff - "$work/said" || fail "examples/trunks.c prints something else on $1"
+# prints EXAMPLE PLAN SCRIPT OPTION: what an example prints of a plan is what the second model says.
+prints() {
+    "$work/$1" "$2" > "$work/said" || fail "examples/$1.c ended with $? on $2"
+    python3 "$3" "$4" "$2" | diff - "$work/said" || fail "examples/$1.c prints something else on $2"
     tail -n 1 "$work/said"
 }
 
@@ -123,13 +124,14 @@ with_library() {
     valgrind -q --error-exitcode=9 "$work/host" "$work/small"
     "$work/host" --stack "$work/small"
     echo "the examples"
-    for example in link trunks; do
+    for example in link trunks modulate; do
         gcc $warnings -O2 -Iinclude examples/$example.c "$library" -o "$work/$example"
         if "$work/$example" plans/refused-14.plan 2> /dev/null; then fail "examples/$example.c took a refused plan"; fi
     done
     "$work/link" plans/plan-a.plan
     for plan in plan-a largest no-scattered-64-to-75; do
-        trunks plans/$plan.plan
+        prints trunks plans/$plan.plan tests/loss.py --trunks
+        prints modulate plans/$plan.plan tests/host.py --example
     done
     echo "wrong expectations"
     "$work/host" "$work/straight.cases"

@@ -16,6 +16,7 @@ from pathlib import Path
 sys.dont_write_bytecode = True
 
 import model
+import points
 
 ROOT = Path(__file__).resolve().parent.parent
 X = model.Limits()
@@ -44,7 +45,9 @@ NUMBERS = {
     19: (16383,),
     20: (16383,),
     21: (16,),
+    22: (*points.Points.loads[:4], points.Points.loads[-1]),
 }
+GROUNDS = range(1, 25)
 
 
 def plan(name):
@@ -83,8 +86,9 @@ def wrong_calls(number, text):
     named = set(re.findall(r'`(headend_[a-z_]+)`', text.split('- Calls:')[-1].split(';')[0]))
     steps = {'headend_emit', 'headend_flush', 'headend_receive'}
     starts = {'headend_fresh_emitter', 'headend_fresh_receiver'}
-    wanted = {16: calls() - {'headend_judge'}, 17: starts | steps, 18: {'headend_emit'},
-              19: {'headend_emit'}, 20: {'headend_receive'}, 21: calls()}[number]
+    modulate = {'headend_modulate'}
+    wanted = {16: calls() - {'headend_judge'} - modulate, 17: starts | steps | modulate, 18: {'headend_emit'},
+              19: {'headend_emit'}, 20: {'headend_receive'}, 21: calls(), 22: modulate, 23: modulate, 24: set()}[number]
     if named == wanted and wanted <= calls():
         return []
     return ['ground %d: other calls: %s' % (number, ' '.join(sorted(named ^ wanted)))]
@@ -108,9 +112,9 @@ def wrong_refusals(text):
     """What is wrong with docs/REFUSALS.md."""
     parts = re.split(r'^## (\d+): .*$', text, flags=re.M)
     found = [int(n) for n in parts[1::2]]
-    wrong = [] if found == list(range(1, 22)) else ['the entries are %s' % found]
+    wrong = [] if found == list(GROUNDS) else ['the entries are %s' % found]
     for number, entry in zip(found, parts[2::2]):
-        wrong += wrong_entry(number, entry) if 1 <= number <= 21 else ['ground %d does not exist' % number]
+        wrong += wrong_entry(number, entry) if number in GROUNDS else ['ground %d does not exist' % number]
     return wrong + wrong_lines(text)
 
 

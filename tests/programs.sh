@@ -97,15 +97,22 @@ each() {
     said "$program where the last byte is not read" "$3" "$unread"
 }
 
+# The stored input of a program; one that has none reads nothing.
+given() {
+    [ -e "crates/$1/stdin" ] && echo "crates/$1/stdin" || echo /dev/null
+}
+
 # Output that cannot be written: full, and closed.
 unwritten() {
+    local given
+    given=$(given "$1")
     : > "$work/out"
     for output in full closed; do
         status=0
         if [ $output = full ]; then
-            "$bin/$1" < "crates/$1/stdin" > /dev/full 2> "$work/err" || status=$?
+            "$bin/$1" < "$given" > /dev/full 2> "$work/err" || status=$?
         else
-            "$bin/$1" < "crates/$1/stdin" >&- 2> "$work/err" || status=$?
+            "$bin/$1" < "$given" >&- 2> "$work/err" || status=$?
         fi
         said "$1 with its output $output" '' "$1: standard output cannot be written"
     done
@@ -152,19 +159,21 @@ stopped() {
 
 # The stack in KiB that docs/PLANCHECK.md gives each program is enough.
 stack() {
+    local given
+    given=$(given "$1")
     status=0
-    (ulimit -s "$2" && exec env -i "$bin/$1" < "crates/$1/stdin") > "$work/out" 2> "$work/err" || status=$?
+    (ulimit -s "$2" && exec env -i "$bin/$1" < "$given") > "$work/out" 2> "$work/err" || status=$?
     said "$1 with a stack of $2 KiB" "$(cat "crates/$1/stdout")" ''
 }
 
 for program in plancheck linkcheck; do
     each $program "$(cat crates/$program/stdout)" '' ''
 done
-for program in plancases emitcases receivecases; do
+for program in plancases emitcases receivecases modulatecases; do
     each $program "$(cat crates/$program/stdout)" "$(sed '$d' crates/$program/stdout)" ''
 done
 each rolecases "$(cat crates/rolecases/stdout)" "$(sed '$d' crates/rolecases/stdout)" "$(head -n 1 crates/rolecases/stdout)"
-for program in plancheck linkcheck plancases rolecases emitcases receivecases; do
+for program in plancheck linkcheck plancases rolecases emitcases receivecases pointcases modulatecases; do
     unwritten $program
 done
 bench plancheck
@@ -174,6 +183,6 @@ grep -oE '^- `[a-z]+`: [0-9]+ KiB' docs/PLANCHECK.md | tr -d '`:-' > "$work/stac
 while read -r program size unit; do
     stack "$program" "$size"
 done < "$work/stacks"
-[ "$(wc -l < "$work/stacks")" -eq 6 ] || differs 'docs/PLANCHECK.md does not give the stack of six programs'
+[ "$(wc -l < "$work/stacks")" -eq 8 ] || differs 'docs/PLANCHECK.md does not give the stack of eight programs'
 [ $differences -eq 0 ] || { echo "programs.sh: $differences differences in $runs runs"; exit 1; }
 echo "programs.sh: $runs runs, all as said"

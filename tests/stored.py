@@ -91,20 +91,27 @@ def try_mutants(mutants, change_of, equivalent, count):
 
 # --- the run ---------------------------------------------------------------
 
-def run(crate, given, wanted, mutants=None):
-    """Writes stdin and stdout of a crate; --check compares them instead, --mutants
-    tries the bent models: `mutants` does, and answers how many were wrong."""
-    paths = [ROOT / 'crates' / crate / name for name in ('stdin', 'stdout')]
-    wrong = 0
-    if '--check' in sys.argv[1:]:
-        for path, want in zip(paths, (given, wanted)):
+def keep(files):
+    """Writes files, given as {path from the root: bytes}; with --check compares them
+    instead and answers how many differ; with --mutants alone does neither."""
+    differing = 0
+    for name, want in files.items():
+        path = ROOT / name
+        if '--check' in sys.argv[1:]:
             if not path.exists() or path.read_bytes() != want:
-                print('differs: %s' % path.relative_to(ROOT))
-                wrong = 1
+                print('differs: %s' % name)
+                differing += 1
+        elif len(sys.argv) == 1:
+            path.parent.mkdir(parents=True, exist_ok=True)
+            path.write_bytes(want)
+    return differing
+
+
+def run(crate, given, wanted, mutants=None):
+    """Keeps stdin and stdout of a crate; --mutants tries the bent models: `mutants`
+    does, and answers how many were wrong."""
+    wrong = keep({'crates/%s/%s' % (crate, name): want
+                  for name, want in (('stdin', given), ('stdout', wanted))})
     if mutants and '--mutants' in sys.argv[1:]:
         wrong += mutants()
-    if len(sys.argv) == 1:
-        paths[0].parent.mkdir(parents=True, exist_ok=True)
-        paths[0].write_bytes(given)
-        paths[1].write_bytes(wanted)
     sys.exit(1 if wrong else 0)

@@ -22,6 +22,8 @@ use Rattle.rules.specs.declared.SendAnswer.{SendAnswer}
 use Rattle.rules.specs.declared.SendAnswer.the-variants as a-send
 use Rattle.rules.specs.declared.ReceiveAnswer.{ReceiveAnswer}
 use Rattle.rules.specs.declared.ReceiveAnswer.the-variants as a-receive
+use Rattle.modulator.specs.declared.ModulateAnswer.{ModulateAnswer}
+use Rattle.modulator.specs.declared.ModulateAnswer.the-variants as a-modulate
 use Rattle.answers.specs.declared.Told.{Told}
 
 -- ---- the layout
@@ -89,3 +91,8 @@ abbrev pub toldReceive : ReceiveAnswer → Told
 toldReceive (a-receive.Warming v) = record { number = 0; place = 0; phase = v .phase; heard = v .heard; value = 0 }
 toldReceive (a-receive.Data v n) = record { number = 0; place = 0; phase = v .phase; heard = v .heard; value = n }
 toldReceive (a-receive.Refused n p v) = record { number = n; place = p; phase = v .phase; heard = v .heard; value = 0 }
+
+-- a refusal's value is the subcarrier (request 04)
+abbrev pub toldModulate : ModulateAnswer → Told
+toldModulate a-modulate.Modulated = valued 0
+toldModulate (a-modulate.Refused n p k) = record { number = n; place = p; phase = 0; heard = 0; value = k }

@@ -4,7 +4,8 @@ ghost use mathlib.Core.Path.{_≡_};
 ghost use Prim.Native.Nat.{_+_, _≤_};
 ghost use lib.ListN.{length};
 ghost use lib.Seq.{sets};
-ghost use Rattle.answers.specs.Answer.{four, written, roleNumber, valued, refusal, toldVerdict, toldRole, toldCount, toldStart, toldListen, toldSend, toldReceive};
+ghost use Rattle.answers.specs.Answer.{four, written, roleNumber, valued, refusal, toldVerdict, toldRole, toldCount, toldStart, toldListen, toldSend, toldReceive, toldModulate};
+use modulator::ModulateAnswer;
 use rules::CountAnswer;
 use rules::ListenAnswer;
 use rules::ReceiveAnswer;
@@ -165,6 +166,21 @@ pub fn told_receive(a: ReceiveAnswer) -> Told
             phase: v.phase,
             heard: v.heard,
             value: 0,
+        },
+    }
+}
+
+pub fn told_modulate(a: ModulateAnswer) -> Told
+    ensures { λ r. ⌜ r ≡ toldModulate a ⌝ }
+{
+    match a {
+        ModulateAnswer::Modulated => valued(0),
+        ModulateAnswer::Refused(g, at, subcarrier) => Told {
+            number: g,
+            place: at,
+            phase: 0,
+            heard: 0,
+            value: subcarrier,
         },
     }
 }

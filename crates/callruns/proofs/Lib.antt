@@ -1,4 +1,5 @@
 pub mod Numbers
+pub mod Modulated
 pub mod Zeros
 pub mod Warming
 pub mod Calls

@@ -19,12 +19,14 @@ use Rattle.rules.specs.Steps.{emitStep, flushStep, dataCountAnswer}
 use Rattle.rules.specs.Receive.{receiveStep}
 use Rattle.bytecells.specs.Octets.{cellsOf, odd}
 use Rattle.bytecells.specs.ByteSteps.{startBytes, listenBytes, emitBytes, flushBytes, receiveBytes}
+use Rattle.bytemodulate.specs.ByteSymbols.{modulateBytes}
 use Rattle.answers.specs.declared.Told.{Told}
 use Rattle.answers.specs.Answer.{short, written, toldVerdict, toldRole, toldCount, toldStart, toldListen, toldSend, toldReceive}
 use Rattle.runs.specs.Run.{isStarted, isListening, isSent, isReceived}
-use Rattle.headend.specs.Calls.{Said, says, StoreSaid, saysStore, StepSaid, saysStep, startTold, listenTold, sendTold, receiveTold, judgeCall, roleCall, countCall, startCall, listenCall, emitCall, flushCall, receiveCall}
-use Rattle.callruns.specs.Host.{isAccepted, isRole, isCount, ZeroIsAccepted}
+use Rattle.headend.specs.Calls.{Said, says, StoreSaid, saysStore, StepSaid, saysStep, NumbersSaid, saysNumbers, startTold, listenTold, sendTold, receiveTold, modulateTold, judgeCall, roleCall, countCall, startCall, listenCall, emitCall, flushCall, receiveCall, modulateCall}
+use Rattle.callruns.specs.Host.{isAccepted, isRole, isCount, isModulated, ZeroIsAccepted}
 use Rattle.callruns.proofs.Numbers.{verdict-zero, role-zero, count-zero, start-zero, listen-zero, send-zero, hear-zero}
+use Rattle.callruns.proofs.Modulated.{modulate-bytes}
 
 -- the number of x where b holds, 21, and else of y
 zero : {T : Type 0} (number : T → ℕ) (b : Bool) (x y : T) (ok : Bool) → number x ≡ 21 → eqb (number y) 0 ≡ ok → (number (pick b x y) ≡ 0) ↔ ((b ≡ false) × (ok ≡ true))
@@ -66,7 +68,7 @@ module _ (d : Device) (s : List ℕ) where
   told-zero a t ok h = zero (λ (x : Said). x .number) (short a) (says 21 a) (says (t .number) (written a t)) ok refl h
 
   pub zero-is-accepted : ZeroIsAccepted d s
-  unfolding judgeCall roleCall countCall startCall listenCall emitCall flushCall receiveCall
+  unfolding judgeCall roleCall countCall startCall listenCall emitCall flushCall receiveCall modulateCall
   zero-is-accepted = record {
     judged = λ a. told-zero a (toldVerdict (verdict d s)) (isAccepted (verdict d s)) (verdict-zero d s);
     role = λ k j a. told-zero a (toldRole (roleAnswer d s k j)) (isRole (roleAnswer d s k j)) (role-zero d s k j);
@@ -81,4 +83,6 @@ module _ (d : Device) (s : List ℕ) where
         zero (λ (x : StepSaid). x .said .number) (short a) (saysStep 21 store room a) (sendTold (flushBytes d s e store room) a) (isSent (flushBytes d s e store room .answer)) refl (flush-bytes e store room);
     received = λ v store y b a.
         zero (λ (x : StepSaid). x .said .number) (short a) (saysStep 21 store b a) (receiveTold (receiveBytes d s v store y b) a) (isReceived (receiveBytes d s v store y b .answer)) refl (receive-bytes v store y b);
+    modulated = λ y loads minus l a.
+        zero (λ (x : NumbersSaid). x .said .number) (short a) (saysNumbers 21 l a) (modulateTold (modulateBytes y loads minus d l) a) (isModulated (modulateBytes y loads minus d l .answer)) refl (modulate-bytes y loads minus d l);
   }

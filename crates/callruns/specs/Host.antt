@@ -5,6 +5,7 @@ use mathlib.Core.Logic.{_↔_}
 use mathlib.Core.Bool.{Bool, true, false}
 use mathlib.Core.List.{List}
 use lib.ListN.{getD}
+use lib.Ieee.{Float}
 use Rattle.rules.specs.declared.Device.{Device}
 use Rattle.rules.specs.declared.EmitterState.{EmitterState}
 use Rattle.rules.specs.declared.ReceiverState.{ReceiverState}
@@ -16,13 +17,16 @@ use Rattle.rules.specs.declared.CountAnswer.{CountAnswer}
 use Rattle.rules.specs.declared.CountAnswer.the-variants as a-count
 use Rattle.rules.specs.declared.ReceiveAnswer.{ReceiveAnswer}
 use Rattle.rules.specs.declared.ReceiveAnswer.the-variants as a-receive
+use Rattle.modulator.specs.declared.ModulateAnswer.{ModulateAnswer}
+use Rattle.modulator.specs.declared.ModulateAnswer.the-variants as a-modulate
 use Rattle.rules.specs.Grounds.{verdict}
 use Rattle.rules.specs.Answers.{roleAnswer}
 use Rattle.rules.specs.Steps.{dataCountAnswer}
 use Rattle.bytecells.specs.ByteSteps.{startBytes, listenBytes, emitBytes, flushBytes, receiveBytes}
+use Rattle.bytemodulate.specs.ByteSymbols.{modulateBytes}
 use Rattle.answers.specs.Answer.{short}
 use Rattle.runs.specs.Run.{isStarted, isListening, isSent, isReceived}
-use Rattle.headend.specs.Calls.{judgeCall, roleCall, countCall, startCall, listenCall, emitCall, flushCall, receiveCall}
+use Rattle.headend.specs.Calls.{judgeCall, roleCall, countCall, startCall, listenCall, emitCall, flushCall, receiveCall, modulateCall}
 
 -- no ground refuses
 abbrev pub isAccepted : Verdict → Bool
@@ -36,6 +40,10 @@ isRole (a-role.Refused n place) = false
 abbrev pub isCount : CountAnswer → Bool
 isCount (a-count.Count n) = true
 isCount (a-count.Refused n place) = false
+
+abbrev pub isModulated : ModulateAnswer → Bool
+isModulated a-modulate.Modulated = true
+isModulated (a-modulate.Refused n place k) = false
 
 abbrev pub isWarming : ReceiveAnswer → Bool
 isWarming (a-receive.Warming v) = true
@@ -63,6 +71,9 @@ pub record ZeroIsAccepted (d : Device) (s : List ℕ) : Type 0 where
       → (flushCall d s (e .phase) store room a .said .number ≡ 0) ↔ ((short a ≡ false) × (isSent (flushBytes d s e store room .answer) ≡ true))
   pub received : (v : ReceiverState) (store y b a : List ℕ)
       → (receiveCall d s (v .phase) (v .heard) store y b a .said .number ≡ 0) ↔ ((short a ≡ false) × (isReceived (receiveBytes d s v store y b .answer) ≡ true))
+  -- this one is given no plan
+  pub modulated : (y loads minus : List ℕ) (l : List Float) (a : List ℕ)
+      → (modulateCall d y loads minus l a .said .number ≡ 0) ↔ ((short a ≡ false) × (isModulated (modulateBytes y loads minus d l .answer) ≡ true))
 
 -- A receive call that returns 0 leaves the value 0 exactly if it answers warming.
 abbrev pub ZeroIsWarming : Device → List ℕ → Type 0

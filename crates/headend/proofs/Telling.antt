@@ -2,15 +2,18 @@
 use Prim.Native.Nat.{ℕ}
 use mathlib.Core.Path.{_≡_, ap}
 use mathlib.Core.List.{List}
+use lib.Ieee.{Float}
 use Rattle.rules.specs.declared.StartAnswer.{StartAnswer}
 use Rattle.rules.specs.declared.ListenAnswer.{ListenAnswer}
 use Rattle.rules.specs.declared.SendAnswer.{SendAnswer}
 use Rattle.rules.specs.declared.ReceiveAnswer.{ReceiveAnswer}
 use Rattle.rules.specs.Steps.{Starting, starts, Sending, leaves}
 use Rattle.rules.specs.Receive.{Listening, listens, Receiving, hears}
+use Rattle.modulator.specs.declared.ModulateAnswer.{ModulateAnswer}
+use Rattle.modulator.specs.Symbols.{Modulating, modulates}
 use Rattle.answers.specs.declared.Told.{Told}
-use Rattle.answers.specs.Answer.{written, toldStart, toldListen, toldSend, toldReceive}
-use Rattle.headend.specs.Calls.{says, saysStore, saysStep, startTold, listenTold, sendTold, receiveTold}
+use Rattle.answers.specs.Answer.{written, toldStart, toldListen, toldSend, toldReceive, toldModulate}
+use Rattle.headend.specs.Calls.{says, saysStore, saysStep, saysNumbers, startTold, listenTold, sendTold, receiveTold, modulateTold}
 
 -- what a call returns and writes of the answer t
 pub told : (n : ℕ) (a b : List ℕ) (t u : Told) → n ≡ t .number → b ≡ written a t → t ≡ u → says n b ≡ says (u .number) (written a u)
@@ -29,3 +32,6 @@ module _ (n : ℕ) (a b : List ℕ) (t : Told) (en : n ≡ t .number) (eb : b �
 
   pub receive-told : (r : ReceiveAnswer) (st y : List ℕ) (e : Receiving) → t ≡ toldReceive r → hears r st y ≡ e → saysStep n st y b ≡ receiveTold e a
   receive-told r st y e et es = rw (en, eb, et) (ap (λ (x : Receiving). receiveTold x a) es)
+
+  pub modulate-told : (r : ModulateAnswer) (l : List Float) (e : Modulating) → t ≡ toldModulate r → modulates r l ≡ e → saysNumbers n l b ≡ modulateTold e a
+  modulate-told r l e et es = rw (en, eb, et) (ap (λ (x : Modulating). modulateTold x a) es)

@@ -1,7 +1,8 @@
--- The calls for a C host (request 01): too short an answer buffer is ground 21 and leaves all as it is; else a call returns and leaves what
--- the entry beneath it answers and leaves. Assumes nothing.
+-- The calls for a C host (requests 01 and 04): too short an answer buffer is ground 21 and leaves all as it is; else a call returns and
+-- leaves what the entry beneath it answers and leaves. Assumes nothing.
 use Prim.Native.Nat.{ℕ}
 use mathlib.Core.List.{List}
+use lib.Ieee.{Float}
 use Rattle.counting.specs.Search.{pick}
 use Rattle.rules.specs.declared.Device.{Device}
 use Rattle.rules.specs.Grounds.{verdict}
@@ -9,8 +10,10 @@ use Rattle.rules.specs.Answers.{roleAnswer}
 use Rattle.rules.specs.Steps.{Starting, Sending, dataCountAnswer}
 use Rattle.rules.specs.Receive.{Listening, Receiving}
 use Rattle.bytecells.specs.ByteSteps.{startBytes, listenBytes, emitBytes, flushBytes, receiveBytes}
+use Rattle.modulator.specs.Symbols.{Modulating}
+use Rattle.bytemodulate.specs.ByteSymbols.{modulateBytes}
 use Rattle.answers.specs.declared.Told.{Told}
-use Rattle.answers.specs.Answer.{short, written, toldVerdict, toldRole, toldCount, toldStart, toldListen, toldSend, toldReceive}
+use Rattle.answers.specs.Answer.{short, written, toldVerdict, toldRole, toldCount, toldStart, toldListen, toldSend, toldReceive, toldModulate}
 
 -- what a call returns, and what it leaves in the answer buffer
 pub record Said : Type 0 where
@@ -41,6 +44,14 @@ pub record StepSaid : Type 0 where
 abbrev pub saysStep : ℕ → List ℕ → List ℕ → List ℕ → StepSaid
 saysStep n st y a = record { said = says n a; store = st; cells = y }
 
+-- the same, with the numbers of the lent modulator symbol
+pub record NumbersSaid : Type 0 where
+  pub said : Said
+  pub numbers : List Float
+
+abbrev pub saysNumbers : ℕ → List Float → List ℕ → NumbersSaid
+saysNumbers n l a = record { said = says n a; numbers = l }
+
 -- what a call says of what the entry beneath it answered and left
 abbrev pub startTold : Starting → List ℕ → StoreSaid
 startTold r a = saysStore (toldStart (r .answer) .number) (r .store) (written a (toldStart (r .answer)))
@@ -53,6 +64,9 @@ sendTold r a = saysStep (toldSend (r .answer) .number) (r .store) (r .symbol) (w
 
 abbrev pub receiveTold : Receiving → List ℕ → StepSaid
 receiveTold r a = saysStep (toldReceive (r .answer) .number) (r .store) (r .buffer) (written a (toldReceive (r .answer)))
+
+abbrev pub modulateTold : Modulating → List ℕ → NumbersSaid
+modulateTold r a = saysNumbers (toldModulate (r .answer) .number) (r .numbers) (written a (toldModulate (r .answer)))
 
 module _ (d : Device) (s : List ℕ) where
   unfoldable pub judgeCall : List ℕ → Said
@@ -85,3 +99,7 @@ module _ (d : Device) (s : List ℕ) where
   unfoldable pub receiveCall : ℕ → ℕ → List ℕ → List ℕ → List ℕ → List ℕ → StepSaid
   receiveCall j h store y b a =
       pick (short a) (saysStep 21 store b a) (receiveTold (receiveBytes d s (record { phase = j; heard = h }) store y b) a)
+
+-- no plan: the symbol on the line, the load of each subcarrier, the sign of each subcarrier's pilot and the lent modulator symbol
+unfoldable pub modulateCall : Device → List ℕ → List ℕ → List ℕ → List Float → List ℕ → NumbersSaid
+modulateCall d symbol loads minus l a = pick (short a) (saysNumbers 21 l a) (modulateTold (modulateBytes symbol loads minus d l) a)

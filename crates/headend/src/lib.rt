@@ -1,8 +1,9 @@
-// The calls for a C host, numbers and byte buffers only: include/headend.h, docs/C-HOST.md. Each is thin: it tries the length of the answer
-// buffer, calls the proved entry over plan bytes or two-byte cells, and has crate answers lay its answer out in the buffer.
+// The calls for a C host, numbers and buffers of bytes or single-precision numbers only: include/headend.h, docs/C-HOST.md. Each is thin:
+// it tries the length of the answer buffer, calls the proved entry over plan bytes or two-byte cells, and has crate answers lay its answer
+// out in the buffer.
 ghost use mathlib.Core.Path.{_≡_};
 ghost use Rattle.rules.specs.Device.{khz50};
-ghost use Rattle.headend.specs.Calls.{says, saysStore, saysStep, judgeCall, roleCall, countCall, startCall, listenCall, emitCall, flushCall, receiveCall};
+ghost use Rattle.headend.specs.Calls.{says, saysStore, saysStep, saysNumbers, judgeCall, roleCall, countCall, startCall, listenCall, emitCall, flushCall, receiveCall, modulateCall};
 use rules::EmitterState;
 use rules::ReceiverState;
 
@@ -146,5 +147,25 @@ pub extern "C" fn headend_receive(
     answers::tell(
         answer,
         answers::told_receive(bytereceiver::receive(plan, state, store, symbol, buffer)),
+    )
+}
+
+// Fills a modulator symbol.
+#[no_mangle]
+pub extern "C" fn headend_modulate(
+    symbol: &[u8],
+    loads: &[u8],
+    minus: &[u8],
+    out: &mut [f32],
+    answer: &mut [u8],
+) -> u32
+    ensures { λ r. ⌜ saysNumbers r (now (out .exit)) (now (answer .exit)) ≡ modulateCall khz50 (now (symbol .entry)) (now (loads .entry)) (now (minus .entry)) (now (out .entry)) (now (answer .entry)) ⌝ }
+{
+    if answer.len() < ANSWER {
+        return 21;
+    }
+    answers::tell(
+        answer,
+        answers::told_modulate(bytemodulate::modulate(symbol, loads, minus, out)),
     )
 }

@@ -1,9 +1,10 @@
-// The checksum of the executed cases: with a number more, with cells more, and with the numbers of each answer of an entry more. tests/ works
-// out the same with the second model.
+// The checksum of the executed cases: with a number more, with cells or singles more, and with the numbers of each answer of an entry more.
+// tests/ works out the same with the second model.
 ghost use mathlib.Core.Path.{_≡_};
 ghost use mathlib.Core.List.{[], _∷_};
 ghost use lib.ListN.{take};
-ghost use Rattle.sums.specs.Sums.{mix, mixAll};
+ghost use lib.Ieee.{binary32, toBits};
+ghost use Rattle.sums.specs.Sums.{mix, mixAll, patterns};
 ghost use Rattle.sums.specs.Numbers.{stateNumbers, countNumbers, startNumbers, listenNumbers, sendNumbers, receiveNumbers};
 use rules::CountAnswer;
 use rules::ListenAnswer;
@@ -51,6 +52,37 @@ pub fn mixed_cells(sum: u32, cells: &[u16], n: usize) -> u32
             return mix;
         }
         let next = mixed_cell(mix, cells[i]);
+        mix = next;
+        i += 1;
+    }
+    mix
+}
+
+// The 32 bits of a number in single precision; of no number those that `toBits` has.
+fn bits_of(y: f32) -> u32
+    ensures { λ r. ⌜ r ≡ toBits binary32 y ⌝ }
+{
+    if y == y {
+        return f32::to_bits(y);
+    }
+    0x7fc00000
+}
+
+// The checksum with a number in single precision more, by its bits.
+pub fn mixed_single(sum: u32, y: f32) -> u32
+    ensures { λ r. ⌜ r ≡ mix sum (toBits binary32 y) ⌝ }
+{
+    mixed(sum, bits_of(y))
+}
+
+// The checksum with numbers in single precision more.
+pub fn mixed_singles(sum: u32, singles: &[f32]) -> u32
+    ensures { λ r. ⌜ r ≡ mixAll sum (patterns (now (singles .entry))) ⌝ }
+{
+    let mut mix = sum;
+    let mut i: usize = 0;
+    while i < singles.len() {
+        let next = mixed_single(mix, singles[i]);
         mix = next;
         i += 1;
     }

@@ -1,0 +1,5 @@
+pub mod Signs
+pub mod Computed
+pub mod PositionLaws
+pub mod GrayLaws
+pub mod Packed

@@ -1,0 +1,2 @@
+pub mod Gray
+pub mod Positions

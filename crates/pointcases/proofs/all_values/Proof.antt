@@ -1,0 +1,46 @@
+-- `pointcases::all_values` ends: the coordinates that are left fall at each turn. Assumes nothing.
+use Prim.Native.Nat.{_-_}
+use borrow.Author.Needs.{needs}
+use Rattle.pointcases.proofs.all_values.Statement.{statement}
+use Rattle.pointcases.proofs.all_values.Tie as tie
+
+abbrev Inv-loop : tie.InvT-loop
+Inv-loop load sum₀ k₀ sum k = Unit {0}
+
+abbrev μ-loop : tie.MeasureT-loop
+μ-loop load sum₀ k₀ sum k = 263 - k
+
+loop-holds : tie.Need-loop-holds Inv-loop μ-loop
+loop-holds c = tt
+
+coordinate-requires : tie.Need-coordinate-requires Inv-loop μ-loop
+coordinate-requires c κs = search needs
+
+row-of-values-requires : tie.Need-row-of-values-requires Inv-loop μ-loop
+row-of-values-requires c κs = search needs
+
+add-k : tie.Need-add-k Inv-loop μ-loop
+add-k c = search needs
+
+loop-less : tie.Need-loop-less Inv-loop μ-loop
+loop-less c = search needs
+
+loop-again : tie.Need-loop-again Inv-loop μ-loop
+loop-again c = tt
+
+returns : tie.Need-returns Inv-loop μ-loop
+returns c = search needs
+
+pub all-values-spec : {M : Type 1} → statement M
+all-values-spec =
+    tie.close
+    (tie.spec
+    Inv-loop
+    μ-loop
+    loop-holds
+    coordinate-requires
+    row-of-values-requires
+    add-k
+    loop-less
+    loop-again
+    returns)
