@@ -1,6 +1,6 @@
 /* Times the library beside the two C implementations, all in one run: in each round every implementation makes the same small batch of
  * calls, in turn, and what they leave is compared byte for byte. Each line gives the median round of each, in microseconds a call.
- * With bench/ring.c, a library of version 2 runs too: its stores are others, all else is compared; it has no modulate.
+ * With bench/ring.c, a library of version 2 runs too: its stores are others, all else is compared; it has no try and no modulate.
  *
  *     bench PLANS [ROUNDS]
  *
@@ -18,7 +18,7 @@ enum { WARM = 2, TIMED = 16, BATCH = WARM + TIMED }; /* calls of a batch; the fi
 enum { TURNS = 3 };                                  /* turns of sixteen trunks, of which the first is not timed */
 enum { POOL = 8, MOST_ROUNDS = 4096 };
 enum { RUN = 64 };                                   /* subcarriers of one load, where loads come in runs */
-enum call { JUDGE, EMIT, FLUSH, RECEIVE, MODULATE };
+enum call { JUDGE, TRY, EMIT, FLUSH, RECEIVE, MODULATE };
 
 extern const struct calls library, best_gcc, best_clang, plain_gcc, plain_clang, ring;
 static const struct calls *const ALL[] = {
@@ -53,6 +53,7 @@ static uint8_t plan[4096], pool[POOL][DATA], arriving[TURNS * TRUNKS][SYMBOL];
 static uint8_t loads[SUBCARRIERS], minus[SUBCARRIERS];
 static size_t plan_len;
 static uint32_t counts[PHASES];
+static uint32_t tried_first, tried_last; /* the range that is tried */
 
 static void fail(const char *what)
 {
@@ -125,6 +126,10 @@ static void make(const struct calls *c, struct bench *b, enum call call, struct 
         b->number[i] = c->judge(plan, plan_len, answer, ANSWER);
         return;
     }
+    if (call == TRY) {
+        b->number[i] = c->try(plan, plan_len, tried_first, tried_last, answer, ANSWER);
+        return;
+    }
     if (call == MODULATE) {
         b->number[i] = modulate(c, b, i, b->numbers);
         return;
@@ -191,26 +196,26 @@ static void arrive(enum call call, int trunks)
 
 static int has(int n, enum call call)
 {
-    return call != MODULATE || ALL[n]->modulate != NULL;
+    return (call != TRY || ALL[n]->try != NULL) && (call != MODULATE || ALL[n]->modulate != NULL);
 }
 
 static void compare(enum call call, int trunks)
 {
-    int all = trunks == 1 ? BATCH : TURNS * trunks;
+    int all = trunks == 1 ? BATCH : TURNS * trunks, cells = call == EMIT || call == FLUSH || call == RECEIVE;
     for (int n = 1; n < IMPLEMENTATIONS && has(n, call); n++) {
         const struct bench *a = bench[0], *b = bench[n];
         if (memcmp(a->number, b->number, (size_t)all * sizeof a->number[0]) != 0)
             fail("the numbers differ");
         if (memcmp(a->answer, b->answer, (size_t)all * ANSWER) != 0)
             fail("the answers differ");
-        if (call != JUDGE && call != MODULATE && memcmp(a->out, b->out, (size_t)all * SYMBOL) != 0)
+        if (cells && memcmp(a->out, b->out, (size_t)all * SYMBOL) != 0)
             fail("the symbols or the data differ");
         if (call == MODULATE && memcmp(a->left, b->left, sizeof a->left) != 0)
             fail("the modulator symbols differ");
     }
     for (int i = 0; call != JUDGE && i < all; i++)
         if (bench[0]->number[i] != 0)
-            fail("a step is refused");
+            fail("a step or a range is refused");
 }
 
 /* The stores after the last round, of those that are laid out alike. */
@@ -322,11 +327,12 @@ static struct bench *make_bench(const struct calls *c)
 
 int main(int words, char **word)
 {
-    static const struct { const char *name, *file; uint32_t depth; } plans[] = {
-        {"Plan A", "plan-a.plan", 0},       {"largest, M 1", "largest.plan", 1},   {"largest, M 4", "largest.plan", 4},
-        {"largest, M 31", "largest.plan", 31}, {"largest, M 32", "largest.plan", 32}, {"hostile", "overlapping-510.plan", 0},
-        {"150 singles", "singles-150.plan", 0}};
-    static const char *const calls[] = {"judge", "emit", "flush", "receive"};
+    static const struct { const char *name, *file; uint32_t depth, first, last; } plans[] = {
+        {"Plan A", "plan-a.plan", 0, 850, 853},          {"largest, M 1", "largest.plan", 1, 850, 853},
+        {"largest, M 4", "largest.plan", 4, 850, 853},   {"largest, M 31", "largest.plan", 31, 850, 853},
+        {"largest, M 32", "largest.plan", 32, 850, 853}, {"hostile", "overlapping-510.plan", 0, 850, 853},
+        {"150 singles", "singles-150.plan", 0, 850, 850}}; /* 850 to 853 would be refused by 13 there */
+    static const char *const calls[] = {"judge", "try", "emit", "flush", "receive"};
     int rounds = words > 2 ? atoi(word[2]) : 300;
     if (words < 2 || rounds < 1 || rounds > MOST_ROUNDS)
         fail("usage: bench PLANS [ROUNDS]");
@@ -337,6 +343,8 @@ int main(int words, char **word)
     head();
     for (size_t i = 0; i < sizeof plans / sizeof plans[0]; i++) {
         load(word[1], plans[i].file, plans[i].depth);
+        tried_first = plans[i].first;
+        tried_last = plans[i].last;
         for (enum call call = JUDGE; call <= RECEIVE; call++)
             line(plans[i].name, calls[call], call, 1, rounds);
     }

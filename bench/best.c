@@ -119,7 +119,7 @@ static inline uint32_t read_first(struct plan *s, const uint8_t *plan, size_t le
     return s->l < 204 || s->l > 3885 || s->m < 1 || s->m > 32 ? refuse(s, 4, 0) : 0;
 }
 
-/* Reads the chain. `rec` takes the records of the pilots. */
+/* Reads the chain. `rec` takes the records of the pilots, `r` the ranges. */
 static inline uint32_t read_chain(struct plan *s, const uint8_t *plan, size_t length, uint16_t *rec, struct ranges *r)
 {
     uint32_t records = (uint32_t)(length / 8), i, next = 0, pilots = 0, g = read_first(s, plan, length, &next);
@@ -147,8 +147,6 @@ static inline uint32_t read_chain(struct plan *s, const uint8_t *plan, size_t le
             rec[pilots++] = (uint16_t)i;
         }
     }
-    for (int j = 0; j < WORDS; j++)
-        s->excluded[j] = r->word[j] | (0 - (r->full >> j & 1));
     s->pilots = pilots;
     return 0;
 }
@@ -302,14 +300,38 @@ static inline uint32_t measure_bands(struct plan *s, uint64_t edges)
     return s->n > CELLS ? refuse(s, 15, 0) : 0;
 }
 
+/* Grounds 6 to 15 of the pilots and the ranges. */
+static inline uint32_t judge_ranges(struct plan *s, const uint16_t *rec, const struct ranges *r)
+{
+    for (int j = 0; j < WORDS; j++)
+        s->excluded[j] = r->word[j] | (0 - (r->full >> j & 1));
+    uint32_t g = take_pilots(s, rec);
+    return g == 0 ? measure_bands(s, r->edges) : g;
+}
+
 static uint32_t judge(struct plan *s, const uint8_t *plan, size_t length)
 {
     uint16_t rec[PILOTS];
     struct ranges r;
     uint32_t g = read_chain(s, plan, length, rec, &r);
-    if (g == 0)
-        g = take_pilots(s, rec);
-    return g == 0 ? measure_bands(s, r.edges) : g;
+    return g == 0 ? judge_ranges(s, rec, &r) : g;
+}
+
+/* The same with one more range, that of a new last record at the end of the chain. A number above 65535, which no record can hold, is
+ * above 4095 or above the end. */
+static uint32_t judge_with(struct plan *s, const uint8_t *plan, size_t length, uint32_t first, uint32_t last)
+{
+    uint16_t rec[PILOTS];
+    struct ranges r;
+    uint32_t g = read_chain(s, plan, length, rec, &r);
+    if (g != 0)
+        return g;
+    if (length == 4096)
+        return refuse(s, 1, 0);
+    if (last > 4095 || first > last)
+        return refuse(s, 4, (uint32_t)(length / 8));
+    exclude(&r, first, last);
+    return judge_ranges(s, rec, &r);
 }
 
 /* --- segments and placeholders --- */
@@ -772,6 +794,15 @@ uint32_t best_judge(const uint8_t *plan, size_t plan_len, uint8_t *answer, size_
     if (answer_len < ANSWER)
         return 21;
     uint32_t g = judge(&s, plan, plan_len);
+    return say(answer, answer_len, g, g == 0 ? 0 : s.place, 0, 0, g == 0 ? s.n : 0);
+}
+
+uint32_t best_try(const uint8_t *plan, size_t plan_len, uint32_t first, uint32_t last, uint8_t *answer, size_t answer_len)
+{
+    struct plan s;
+    if (answer_len < ANSWER)
+        return 21;
+    uint32_t g = judge_with(&s, plan, plan_len, first, last);
     return say(answer, answer_len, g, g == 0 ? 0 : s.place, 0, 0, g == 0 ? s.n : 0);
 }
 

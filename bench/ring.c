@@ -96,5 +96,5 @@ static uint32_t receive(const uint8_t *plan, size_t plan_len, uint32_t phase, ui
 
 extern const struct calls ring;
 
-const struct calls ring = {"ring", "a library of version 2", STORE + ROW, judge, data_count, fresh_emitter, fresh_receiver, emit, flush,
-                           receive, NULL};
+const struct calls ring = {"ring", "a library of version 2", STORE + ROW, judge, NULL, data_count, fresh_emitter, fresh_receiver, emit,
+                           flush, receive, NULL};

@@ -25,7 +25,7 @@ extern "C" {
 /* Grows by one whenever a call takes, answers or writes something else for the same bytes, or a name below has another value or goes.
  * A name, a call or a helper that is added does not count. 1 was the interface as it came, 2 counts the widths, 3 keeps one cell in a
  * store for each symbol of delay and has no row; headers from before this name are of 1 or of 2. A header of 3 that has HEADEND_NUMBERS
- * has headend_modulate. */
+ * has headend_modulate, and one that has HEADEND_RECORD_NUMBER_MAX has headend_try. */
 #define HEADEND_VERSION 3
 
 /* The number that a call returns is not to be ignored: gcc and clang warn. */
@@ -66,6 +66,9 @@ extern "C" {
 #define HEADEND_DATA_BYTES_MAX 7490u /* more data cells than N_I no symbol has */
 #define HEADEND_STACK_BYTES 131072u  /* some 73,000 were measured */
 
+/* The largest number that a record can hold; headend_try refuses a larger one by 4. */
+#define HEADEND_RECORD_NUMBER_MAX 65535u
+
 /* The largest stores, those of N_I 3745 and M 32: 58,032 and 58,063 cells. A plan needs E cells for an emitter's store, the sum of p mod M
  * over the N_I cells p: E = (N_I / M) * (M * (M - 1) / 2) + r * (r - 1) / 2, where r = N_I mod M and N_I / M is rounded down; and
  * N_I * (M - 1) - E cells for a receiver's, the sum of M - 1 - (p mod M). headend_emitter_store_bytes and headend_receiver_store_bytes
@@ -75,9 +78,9 @@ extern "C" {
 
 /* What a call returns: 0, or the ground that refuses it, in the words of the rules, with its place in brackets, 0 where none is named.
  * A call tries 21, then 1 to 15, along the chain 2 to 5 for each record before the next is read, then those of 16 to 20 that speak of
- * what it is given, and refuses by the first that holds. headend_modulate, which is given no plan, tries 21, then 17, then 22 and 23 of
- * each subcarrier before the next. 9 to 12 count: the width of a band a to b is b - a + 1, the span is the highest active subcarrier less
- * the lowest, plus one. */
+ * what it is given, and refuses by the first that holds. headend_try tries 21, then 1 to 5 of the plan, then 1 to 15 of its copy with one
+ * more range. headend_modulate, which is given no plan, tries 21, then 17, then 22 and 23 of each subcarrier before the next. 9 to 12
+ * count: the width of a band a to b is b - a + 1, the span is the highest active subcarrier less the lowest, plus one. */
 #define HEADEND_ACCEPTED 0u
 /* The plan's length is below 8, above 4,096 or not a multiple of 8. */
 #define HEADEND_REFUSED_PLAN_LENGTH 1u
@@ -131,6 +134,15 @@ extern "C" {
 /* Judges a plan. Value: N_I. Refuses by 1 to 15 and 21. */
 HEADEND_NOT_IGNORED
 uint32_t headend_judge(const uint8_t *plan, size_t plan_len, uint8_t *answer, size_t answer_len);
+
+/* What one more excluded range, `first` to `last`, would do to a plan, before anybody touches it: the verdict on a copy of the plan in
+ * which the last chain record points at a new last record, of kind 2, with that range and next index zero. Value: N_I of the copy. A plan
+ * that 1 to 5 refuse gives that refusal; else the copy's verdict is given, 1 included: a plan of 4,096 bytes has a copy of 4,104 and gives
+ * 1, whatever the range. A plan that 6 to 15 refuse is tried all the same: the range may mend it. A range that ends above 4095 or begins
+ * above its end is refused by 4 at the new record, whose index is the number of records of the plan, and so is a number above
+ * HEADEND_RECORD_NUMBER_MAX, which no record can hold. Nothing but the answer is written. Refuses by 1 to 15 and 21. */
+HEADEND_NOT_IGNORED
+uint32_t headend_try(const uint8_t *plan, size_t plan_len, uint32_t first, uint32_t last, uint8_t *answer, size_t answer_len);
 
 /* The role of a subcarrier at a phase. Value: the role. Refuses by 1 to 16 and 21. */
 HEADEND_NOT_IGNORED

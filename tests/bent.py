@@ -25,7 +25,7 @@ from stored import ROOT
 # --- wrong expectations ----------------------------------------------------
 
 def few(cases):
-    """Twelve calls."""
+    """Fifteen calls."""
     plan, rng = plans.near_a(M=2), random.Random(6)
     cases.name('few calls')
     cases.call('judge', plan=b'')                                       # 0
@@ -41,6 +41,9 @@ def few(cases):
     cases.call('modulate', **line)                                      # 9
     cases.call('modulate', **with_line(line, 300, 16, 4))               # 10
     cases.call('modulate', **{**line, 'answer': bytes(ANSWER - 1)})     # 11
+    cases.call('try', 850, 853, plan=plan, answer=bytes(32))            # 12
+    cases.call('try', 850, 854, plan=plan, answer=bytes(ANSWER))        # 13
+    cases.call('try', 850, 853, plan=plan, answer=bytes(ANSWER - 1))    # 14
     return cases
 
 
@@ -63,7 +66,13 @@ BENT = ((0, None, 0, 'a refusal by another number'), (1, None, 0, 'a refusal of 
         (9, 'numbers', -1, 'another last number'), (10, 'numbers', 0, 'a number of a refused symbol'),
         (11, 'numbers', -1, 'a number beside a short answer'), (10, 'answer', 3, 'another value as the place'),
         (10, 'answer', 14, 'another subcarrier'), (9, 'answer', 15, 'a subcarrier without a refusal'),
-        (9, 'symbol', 3, 'a changed symbol'), (9, 'loads', 5, 'changed loads'), (10, 'minus', 9, 'changed signs'))
+        (9, 'symbol', 3, 'a changed symbol'), (9, 'loads', 5, 'changed loads'), (10, 'minus', 9, 'changed signs'),
+        (12, None, 0, 'a refusal of a good range'), (13, None, 0, 'a refusal of a copy by another number'),
+        (12, 'answer', 15, 'another N_I of a copy'), (12, 'answer', 3, 'a place without a refusal'),
+        (12, 'answer', 16, 'a byte past the answer'), (13, 'answer', 3, 'another place in a copy'),
+        (13, 'answer', 15, 'a value of a refused copy'), (13, 'answer', 7, 'an end of the range in the answer'),
+        (14, None, 0, 'a short answer not refused'), (14, 'answer', 0, 'a short answer written'),
+        (12, 'plan', 19, 'a plan whose last chain record was changed'), (13, 'plan', -1, 'a plan whose last range was changed'))
 
 
 def bend_of(call, key, at):
@@ -148,6 +157,44 @@ WRONG = (
     ('((int)phase - back + PHASES) % PHASES, NULL, NULL', '((int)phase + back) % PHASES, NULL, NULL'),
     ('for (int back = emitter_places(&p, cell); back > 0; back--)', 'for (int back = 1; back <= emitter_places(&p, cell); back++)'),
     ('return data == NULL ? FILLER_MARK', 'return data == NULL ? 0'),
+    # one more range: at which record the new one hangs, and what it holds
+    ('put(copy + RECORD * last_on_chain, 1,', 'put(copy, 1,'),
+    ('put(copy + RECORD * last_on_chain, 1,', 'put(copy + length - RECORD, 1,'),
+    ('    put(copy + RECORD * last_on_chain, 1, (unsigned)(length / RECORD));\n', ''),
+    ('1, (unsigned)(length / RECORD));', '1, (unsigned)last_on_chain + 1);'),
+    ('put(copy + RECORD * last_on_chain, 1, (unsigned)(length / RECORD));',
+     'copy[RECORD * last_on_chain + 3] = (uint8_t)(length / RECORD);'),
+    ('record[0] = 2;', 'record[0] = 3;'),
+    ('put(record, 1, 0);', 'put(record, 1, (unsigned)(length / RECORD));'),
+    ('put(record, 2, first);\n    put(record, 3, last);', 'put(record, 2, last);\n    put(record, 3, first);'),
+    ('put(record, 3, last);', 'put(record, 3, last - 1);'),
+    # bytes of the plan: some that are written before it is copied, and some that are read behind it
+    ('    memcpy(copy, plan, length);\n    put(copy + RECORD * last_on_chain, 1, (unsigned)(length / RECORD));\n',
+     '    put((uint8_t *)plan + RECORD * last_on_chain, 1, (unsigned)(length / RECORD));\n    memcpy(copy, plan, length);\n'),
+    ('memcpy(copy, plan, length);', 'memcpy(copy, plan, length + RECORD);'),
+    # what is tried, and in which order: the plan's own 2 to 5, not its 6 to 15, then 1 of the copy, then the numbers
+    ('    if (own.number != 0)\n', '    if (own.number == 1 || (own.number != 0 && own.place == 0))\n'),
+    ('struct refusal own = read_chain(p, plan, length);', 'struct refusal own = judge(p, plan, length);'),
+    ('struct refusal own = read_chain(p, plan, length);',
+     'struct refusal own = first > last || last >= SUBCARRIERS ? refuse(4, (uint32_t)(length / RECORD)) : read_chain(p, plan, length);'),
+    ('struct refusal own = read_chain(p, plan, length);',
+     'struct refusal own = length == LONGEST ? refuse(1, 0) : read_chain(p, plan, length);'),
+    ('length < LONGEST && (first > LAST_NUMBER || last > LAST_NUMBER)', 'first > LAST_NUMBER || last > LAST_NUMBER'),
+    ('return judge(p, copy, length + RECORD);',
+     'return length < LONGEST ? judge(p, copy, length + RECORD) : judge(p, plan, length);'),
+    ('return judge(p, copy, length + RECORD);', 'return judge(p, copy, length);'),
+    # the numbers of the range cut to two bytes: both, the first, the last; the place of their refusal
+    ('length < LONGEST && (first > LAST_NUMBER || last > LAST_NUMBER)', '0'),
+    ('first > LAST_NUMBER || last > LAST_NUMBER', 'last > LAST_NUMBER'),
+    ('first > LAST_NUMBER || last > LAST_NUMBER', 'first > LAST_NUMBER'),
+    ('refuse(4, (uint32_t)(length / RECORD))', 'refuse(4, 0)'),
+    ('refuse(4, (uint32_t)(length / RECORD))', 'refuse(4, (uint32_t)p->last + 1)'),
+    # the answer: the verdict or N_I of the plan and not of the copy, the range where a state would stand
+    ('return judge(p, copy, length + RECORD);', 'return judge(p, plan, length);'),
+    ('struct refusal r = judge_with(&p, plan, plan_len, first, last);',
+     'struct refusal r = judge_with(&p, plan, plan_len, first, last);\n    if (r.number == 0)\n        judge(&p, plan, plan_len);'),
+    ('struct refusal r = judge_with(&p, plan, plan_len, first, last);\n    return say(answer, r, NO_STATE,',
+     'struct refusal r = judge_with(&p, plan, plan_len, first, last);\n    return say(answer, r, (struct state){first, last},'),
     # the modulator: its lengths, grounds and answer
     ('if (wrong_buffers(symbol_len, 0, 0, answer_len))', 'if (wrong_buffers(0, 0, 0, answer_len))'),
     ('if (symbol_len != 2 * SUBCARRIERS || loads_len', 'if (symbol_len < 2 * SUBCARRIERS || loads_len'),
@@ -203,6 +250,7 @@ WRONG_HEADER = (
     ('HEADEND_HEARD 8 ', 'HEADEND_HEARD 12 '), ('HEADEND_VALUE 12', 'HEADEND_VALUE 16'), ('HEADEND_SCATTERED 4', 'HEADEND_SCATTERED 5'),
     ('HEADEND_REFUSED_RECORD_KIND 2u', 'HEADEND_REFUSED_RECORD_KIND 3u'), ('BUFFER_BYTES 21u', 'BUFFER_BYTES 20u'),
     ('REFUSED_LOAD 22u', 'REFUSED_LOAD 23u'), ('REFUSED_VALUE 23u', 'REFUSED_VALUE 22u'), ('NUMBERS 8192u', 'NUMBERS 4096u'),
+    ('RECORD_NUMBER_MAX 65535u', 'RECORD_NUMBER_MAX 65536u'), ('RECORD_NUMBER_MAX 65535u', 'RECORD_NUMBER_MAX 4095u'),
     ('DEPTH_MAX 32u', 'DEPTH_MAX 31u'), ('DATA_BYTES_MAX 7490u', 'DATA_BYTES_MAX 7488u'),
     ('EMITTER_STORE_BYTES_MAX 116064u', 'EMITTER_STORE_BYTES_MAX 116126u'),
     ('RECEIVER_STORE_BYTES_MAX 116126u', 'RECEIVER_STORE_BYTES_MAX 116064u'), ('+ rest * rest - rest;', '+ rest * rest;'),

@@ -31,7 +31,7 @@ static const struct {
     NAME(HEADEND_CELL_DATA_MAX), NAME(HEADEND_CELL_SCATTERED), NAME(HEADEND_CELL_FILLER), NAME(HEADEND_CELL_EXCLUDED),
     NAME(HEADEND_CELL_CONTINUOUS), NAME(HEADEND_CELL_PLC),
     NAME(HEADEND_SUBCARRIERS), NAME(HEADEND_PHASES), NAME(HEADEND_DEPTH_MAX), NAME(HEADEND_PLAN_BYTES_MAX), NAME(HEADEND_SYMBOL_BYTES),
-    NAME(HEADEND_NUMBERS),
+    NAME(HEADEND_NUMBERS), NAME(HEADEND_RECORD_NUMBER_MAX),
     NAME(HEADEND_EMITTER_STORE_BYTES_MAX), NAME(HEADEND_RECEIVER_STORE_BYTES_MAX), NAME(HEADEND_DATA_BYTES_MAX), NAME(HEADEND_STACK_BYTES),
     NAME(HEADEND_ACCEPTED), NAME(HEADEND_REFUSED_PLAN_LENGTH), NAME(HEADEND_REFUSED_RECORD_KIND), NAME(HEADEND_REFUSED_NEXT_INDEX),
     NAME(HEADEND_REFUSED_RECORD_NUMBERS), NAME(HEADEND_REFUSED_PILOT_COUNT), NAME(HEADEND_REFUSED_ACTIVE_OUTSIDE),
@@ -44,7 +44,7 @@ static const struct {
 };
 
 enum { SLOTS = 10, BUFFERS = 5, NUMBERS = 2, GUARD = 64, GUARD_BYTE = 0x5A, PAGE = 65536, ROOM = 1 << 21, GROUNDS = 23, STACK = 1 << 20 };
-enum { JUDGE, ROLE, DATA_COUNT, FRESH_EMITTER, FRESH_RECEIVER, EMIT, FLUSH, RECEIVE, MODULATE, CALLS };
+enum { JUDGE, TRY, ROLE, DATA_COUNT, FRESH_EMITTER, FRESH_RECEIVER, EMIT, FLUSH, RECEIVE, MODULATE, CALLS };
 enum { GUARDED, OWN_BLOCK, PAGE_BEHIND, PAGE_BEFORE, NULL_IF_EMPTY, WAYS };
 /* The helpers. */
 enum { NUMBER, CELL, PUT_CELL, LOWEST_PLC, DEPTH, EMITTER_STORE_BYTES, RECEIVER_STORE_BYTES, MARK, SYMBOL_PHASE };
@@ -55,6 +55,7 @@ static const struct {
     const char *buffer[BUFFERS];
 } CALL[CALLS] = {
     {"judge", 0, 2, {"plan", "answer"}},
+    {"try", 2, 2, {"plan", "answer"}},
     {"role", 2, 2, {"plan", "answer"}},
     {"data_count", 1, 2, {"plan", "answer"}},
     {"fresh_emitter", 1, 3, {"plan", "store", "answer"}},
@@ -92,7 +93,8 @@ static struct {
 } file;
 static struct {
     uint32_t calls, returned; /* bit n of `returned`: some call returned n */
-    uint32_t nulls, null;     /* calls with a NULL, and bit n of `null`: the n-th of all buffers of all calls was NULL */
+    uint32_t nulls;           /* calls with a NULL */
+    uint64_t null;            /* bit n: the n-th of all buffers of all calls was NULL */
     uint32_t names;           /* names and helpers compared */
     unsigned long long bytes;
     char name[200];
@@ -151,6 +153,13 @@ static uint32_t number(void)
 {
     const uint8_t *b = take(4);
     return (uint32_t)b[0] << 24 | (uint32_t)b[1] << 16 | (uint32_t)b[2] << 8 | b[3];
+}
+
+/* A number of eight bytes. */
+static uint64_t long_number(void)
+{
+    uint64_t high = number();
+    return high << 32 | number();
 }
 
 static struct slot *a_slot(void)
@@ -331,6 +340,8 @@ static uint32_t make_call(const struct call *c, const struct lent *b)
     switch (c->which) {
     case JUDGE:
         return headend_judge(b[0].at, len[0], b[1].at, len[1]);
+    case TRY:
+        return headend_try(b[0].at, len[0], n[0], n[1], b[1].at, len[1]);
     case ROLE:
         return headend_role(b[0].at, len[0], n[0], n[1], b[1].at, len[1]);
     case DATA_COUNT:
@@ -405,15 +416,15 @@ static void try_call(const struct call *c, int way)
 }
 
 /* Which of all buffers of all calls are empty in this one, a bit each. */
-static uint32_t empty_buffers(const struct call *c)
+static uint64_t empty_buffers(const struct call *c)
 {
-    uint32_t empty = 0;
+    uint64_t empty = 0;
     int first = 0;
     for (unsigned which = 0; which < c->which; which++)
         first += CALL[which].buffers;
     for (int i = 0; i < CALL[c->which].buffers; i++)
         if (c->slots[i]->length == 0)
-            empty |= UINT32_C(1) << (first + i);
+            empty |= UINT64_C(1) << (first + i);
     return empty;
 }
 
@@ -439,14 +450,16 @@ static void do_call(void)
 
 static void end(void)
 {
-    uint32_t calls = number(), returned = number(), null = number(), names = number();
+    uint32_t calls = number(), returned = number();
+    uint64_t null = long_number();
+    uint32_t names = number();
     const uint32_t all = (UINT32_C(1) << (GROUNDS + 1)) - 1;
     if (calls != run.calls || names != run.names)
         fail("%lu calls were to be made and %lu names compared", (unsigned long)calls, (unsigned long)names);
     if (returned != run.returned)
         fail("numbers %06lx were returned, wanted %06lx", (unsigned long)run.returned, (unsigned long)returned);
     if (null != run.null)
-        fail("buffers %08lx were NULL, wanted %08lx", (unsigned long)run.null, (unsigned long)null);
+        fail("buffers %09llx were NULL, wanted %09llx", (unsigned long long)run.null, (unsigned long long)null);
     printf("host: %lu calls, %s, each in 4 ways, %lu also with NULL, %llu bytes and %lu names compared", (unsigned long)run.calls,
            returned == all ? "grounds 1..23 each reached" : "not all grounds reached", (unsigned long)run.nulls, run.bytes,
            (unsigned long)run.names);

@@ -25,7 +25,8 @@ machine has it, four bytes a number.
                                         a helper: its place in HELPERS, the bytes it is given, two
                                         numbers, what it answers
     7, slot, number, bytes              the slot has so many bytes, and they are these
-    0, number, number, number, number   the end: how many calls there were; which numbers were
+    0, number, number, eight bytes, number
+                                        the end: how many calls there were; which numbers were
                                         returned, bit n for n; which buffers were empty, bit n for
                                         the n-th of all buffers of all calls; how many items of 5
                                         and 6
@@ -51,6 +52,7 @@ from stored import ROOT
 ANSWER = 16
 SYMBOL = 4096
 TOP = 2 ** 32 - 1
+RECORD_MAX = 65535                          # a number of a record has two bytes
 ODD_NUMBERS = (0x12345678, 0x9ABCDEF0)      # no byte as another
 BLOCK = 256
 PLAN, SENDING, LISTENING, GIVEN, LINE, HANDED, SAID, LOADS, SIGNS, NUMBERS = range(10)
@@ -60,6 +62,7 @@ ROLES = ('excluded', 'plc', 'continuous', 'scattered', 'data')
 # Of each call: how many numbers it takes, its buffers, how many of its numbers are a state, its grounds.
 CALLS = {
     'judge': (0, 'plan answer', 0, {*range(1, 16), 21}),
+    'try': (2, 'plan answer', 0, {*range(1, 16), 21}),
     'role': (2, 'plan answer', 0, {*range(1, 17), 21}),
     'data_count': (1, 'plan answer', 0, {*range(1, 17), 21}),
     'fresh_emitter': (1, 'plan store answer', 0, {*range(1, 18), 21}),
@@ -141,6 +144,10 @@ class Interface(Receiver):
     def call_judge(self, plan):
         answer = self.verdict(plan)
         return answer if answer[0] == 'refused' else ((), answer[1])
+
+    def call_try(self, first, last, plan):
+        answer = self.trial(plan, first, last)
+        return answer if isinstance(answer, tuple) else ((), len(self.ranks_of(answer)))
 
     def call_role(self, subcarrier, phase, plan):
         answer = self.role(plan, subcarrier, phase)
@@ -263,7 +270,7 @@ class Cases:
     def end(self):
         reached = sum(1 << n for n in set().union(*self.reached.values()))
         empty = sum(1 << n for n, buffer in enumerate(BUFFERS) if buffer in self.empty)
-        self.file.write(b'\0' + b''.join(map(number, (self.calls, reached, empty, self.names))))
+        self.file.write(b'\0' + number(self.calls) + number(reached) + empty.to_bytes(8, 'big') + number(self.names))
         self.file.close()
 
 
@@ -446,6 +453,7 @@ def names_of(limits):
             **{'CELL_' + name: mark for name, mark in marks.items()},
             'SUBCARRIERS': limits.last_subcarrier + 1, 'PHASES': limits.phases, 'DEPTH_MAX': limits.highest_m,
             'PLAN_BYTES_MAX': limits.longest, 'SYMBOL_BYTES': 2 * limits.cells, 'NUMBERS': 2 * limits.cells,
+            'RECORD_NUMBER_MAX': RECORD_MAX,
             **{end + '_STORE_BYTES_MAX': 2 * length(limits.most_ranks, limits.highest_m)
                for end, length in largest.items()}, 'DATA_BYTES_MAX': 2 * limits.most_ranks, 'STACK_BYTES': 131072, 'ACCEPTED': 0,
             **{'REFUSED_' + name: 1 + i for i, name in enumerate(GROUNDS)}}
@@ -537,7 +545,8 @@ def refused_plans(cases):
             # Good buffers of Plan A, then short ones and numbers out of range.
             for cells, n in (({'store': 639, 'data': 421, 'symbol': SYMBOL}, 3), ({}, TOP)):
                 given = {key: some_bytes(rng, cells.get(key, 2)) for key in buffers.split()[1:-1]}
-                assert cases.call(name, *[n] * takes, plan=plan, **given)[0] == ground
+                want = 4 if name == 'try' and n == TOP and ground > 5 else ground       # the new record's
+                assert cases.call(name, *[n] * takes, plan=plan, **given)[0] == want
             for odd in given:
                 bad = {**given, odd: given[odd] + b'\0'}
                 assert cases.call(name, *[5] * takes, plan=plan, **bad)[0] == 21
@@ -649,7 +658,7 @@ def empty_buffers(cases):
         full = {'plan': plan, 'store': link.listening if hears else link.sending, 'data': data, 'symbol': link.symbol,
                 'answer': bytes(ANSWER)}
         full = {key: full[key] for key in buffers.split()}
-        numbers = (60, 0)[:takes]
+        numbers = (60, 60) if name == 'try' else (60, 0)[:takes]
         assert cases.call(name, *numbers, **full)[0] == 0
         for key in full:
             want = 0 if (name, key) == ('receive', 'data') else refused[key]     # warming, any data buffer will do
@@ -696,6 +705,180 @@ def losses(cases):
         returned, after = link.receive(symbol=symbol)
         assert returned == 0
         link.listening, link.state = after['store'], link.next_state(after['answer'], 2)
+
+
+# --- one more range --------------------------------------------------------
+
+RANGES = ((850, 853), (850, 854), (0, 147), (3949, 4095), (2500, 2500), (1239, 1240), (1182, 1201), (0, 4095), (7, 6), (4095, 4096))
+# Refused by 4: the numbers from 65536 on, cut to two bytes, would be good.
+BAD = ((7, 6), (4096, 4096), (65536 + 850, 65536 + 853), (850, 65536 + 853), (65536 + 850, 853), (0, TOP), (TOP, TOP))
+
+
+def attempt(cases, plan, first, last, want=None, **other):
+    """A call of try, and what it has to give where that is said: 0 and N_I, or the ground and its place."""
+    returned, after = cases.call('try', first, last, plan=plan, **other)
+    answer = after['answer']
+    given = returned, value_of(answer) if returned == 0 else int.from_bytes(answer[:4], 'big')
+    assert want is None or given == want, (first, last, want, given)
+
+
+def without_last(model, plan):
+    """A plan and a range such that a trial of it has this plan as the copy; None where the chain does not end at a last
+    record of kind 2."""
+    index = len(plan) // 8 - 1
+    if model.length_is_bad(len(plan)) or plan[-8:-4] != bytes((2, 0, 0, 0)):
+        return None
+    for i in (i for i in range(index) if model.read(plan, i).next == index):
+        shorter = plans.next_index(plan[:-8], i, 0)
+        chain = model.chain(shorter)
+        if isinstance(chain, list) and model.last_on_chain(chain) == i:
+            return shorter, *to_cells(plan[-4:])
+    return None
+
+
+def some_range(rng, plan):
+    """A range beside one of the plan, the PLC or a limit, or anywhere."""
+    words = to_cells(plan[:len(plan) // 8 * 8]) or [0] * 4
+    first = rng.choice((rng.choice(words[2::4]) - 1, rng.choice(words[3::4]) + 1, words[2] - 57, words[2] + 63, 0, 147, 3949,
+                        rng.randrange(4096), rng.randrange(4096)))
+    first = min(max(first, 0), RECORD_MAX)
+    return first, first + rng.choice((0, 0, 0, 1, 3, 4, 18, 19, 40, 400))
+
+
+def trials(cases, ranges, step, some):
+    """These ranges on every plan of plans/; on the named cases of plans.py, in steps of `step`, a range by chance, and the last range
+    of each on the plan without it: its line was worked out by hand; ranges by chance on `some` plans by chance."""
+    rng = random.Random(20)
+    for path in sorted((ROOT / 'plans').glob('*.plan')):
+        cases.name('ranges tried on ' + path.name)
+        for first, last in ranges:
+            attempt(cases, path.read_bytes(), first, last)
+    for name, plan, want in plans.all_cases()[::step]:
+        cases.name('tried on ' + name)
+        attempt(cases, plan, *some_range(rng, plan))
+        shorter = without_last(cases.model, plan)
+        if shorter is not None:
+            words = [int(word) for word in want.split()[1:]]
+            attempt(cases, *shorter, (0, words[0]) if want.startswith('ok') else tuple(words))
+    for _ in range(some):
+        cases.name('tried on a plan by chance')
+        plan = compare.good(rng)
+        for _ in range(3):
+            attempt(cases, plan, *some_range(rng, plan))
+
+
+def limits():
+    """(plan, first, last, what comes of it): Plan A and its neighbours, as the paper lists them, then both sides of each limit that
+    one more range can break."""
+    a, b, six = plans.PLAN_A, plans.near_b, plans.singles(1010, 1030, 1050, 1070, 1090, 1110)
+    split, pilots = b([(1100, 1119)]), plans.near_a(pilots=[900, 860])
+    two, crowded = plans.two_bands, plans.two_bands(1300, 1339, plans.singles(1310, 1330))
+    wide = plans.plan(972, 4, [(0, 799), (1699, 4095)])
+    return ((a, 1240, 1240, (0, 424)), (a, 1239, 1240, (10, 0)), (a, 850, 854, (14, 835)), (a, 850, 853, (0, 421)),
+            (plans.near_a(plans.singles(*range(810, 861, 10))), 870, 870, (13, 800)),
+            (a, 1182, 1201, (9, 1202)), (a, 1181, 1200, (10, 0)), (a, 1180, 1199, (10, 0)), (a, 839, 858, (9, 800)),
+            (a, 840, 859, (10, 0)), (plans.ONE_PILOT_FEWER, 1000, 1000, (0, 3745)), (plans.LARGEST, 1000, 1000, (0, 3744)),
+            (a, 0, 799, (0, 425)), (a, 799, 800, (0, 424)), (a, 800, 801, (10, 0)), (a, 4095, 4095, (0, 425)),
+            (a, 4095, 4096, (4, 3)), (a, 4096, 4095, (4, 3)), (a, 801, 800, (4, 3)), (a, 1, 0, (4, 3)),
+            (a, 915, 915, (0, 424)), (a, 916, 916, (7, 916)), (a, 1035, 1035, (7, 1035)), (a, 1036, 1036, (0, 424)),
+            (a, 915, 917, (7, 916)), (a, 0, 4095, (7, 916)), (a, 979, 1100, (7, 979)),
+            (pilots, 899, 899, (0, 422)), (pilots, 900, 900, (8, 3)), (pilots, 860, 860, (8, 4)), (pilots, 860, 900, (8, 3)),
+            (split, 1159, 1178, (9, 1120)), (split, 1160, 1179, (0, 945)), (b(), 1020, 1039, (9, 1000)), (b(), 1040, 1059, (0, 965)),
+            (wide, 1239, 1258, (0, 863)), (wide, 1240, 1259, (0, 863)), (wide, 1239, 1259, (10, 0)), (wide, 1240, 1258, (13, 1127)),
+            (two(1362, 1404), 1100, 1100, (11, 0)), (two(1362, 1409), 1100, 1100, (0, 472)), (two(1362, 1408), 1100, 1100, (11, 0)),
+            (crowded, 1330, 1330, (0, 463)), (crowded, 1320, 1320, (12, 1300)), (plans.equal_12(), 870, 870, (12, 800)),
+            (b(six), 1128, 1128, (13, 1009)), (b(six), 1129, 1129, (13, 1010)), (b(six), 1130, 1130, (0, 978)),
+            (b([(1100, 1103)]), 1118, 1118, (14, 1099)), (b([(1100, 1103)]), 1119, 1119, (14, 1100)),
+            (b([(1100, 1103)]), 1120, 1120, (0, 980)), (b(), 1100, 1118, (13, 1000)), (b(), 1100, 1119, (0, 965)),
+            (plans.full(pilots=plans.pilots_of_full(120)), 3000, 3000, (0, 3664)))
+
+
+def mended():
+    """(a refused plan, its ground, first, last, what comes of it): what the range mends, and what it does not."""
+    low, high = plans.plan(204, 4, plans.outside(147, 588)), plans.plan(3885, 4, plans.outside(3508, 3949))
+    holes = plans.plan(972, 4, [(0, 99), (101, 119), (121, 799), (1241, 4095)])
+    alone, full, two, b = plans.record(1, 0, 972, 4), plans.full, plans.two_bands, plans.near_b
+    crowded = two(1300, 1339, plans.singles(1310, 1320, 1330))
+    return ((low, 6, 147, 147, (0, 425)), (low, 6, 146, 146, (6, 147)), (high, 6, 3949, 3949, (0, 425)),
+            (high, 6, 3950, 3950, (6, 3949)), (holes, 6, 100, 100, (6, 120)), (holes, 6, 100, 120, (0, 425)),
+            (alone, 6, 0, 799, (6, 3949)), (alone, 6, 0, 4095, (7, 916)), (alone, 6, 7, 6, (4, 1)),
+            (plans.next_index(plans.PLAN_A, 1, 0), 6, 1241, 4095, (0, 425)),
+            (plans.near_a(plans.singles(972)), 7, 850, 850, (7, 972)), (plans.near_a(plans.singles(972)), 7, 916, 916, (7, 916)),
+            (plans.near_a(pilots=[972]), 8, 850, 850, (8, 3)), (plans.near_a(pilots=[850, 972]), 8, 850, 850, (8, 3)),
+            (two(1300, 1338), 9, 1300, 1338, (0, 425)), (two(1300, 1338), 9, 1300, 1337, (9, 1338)),
+            (plans.plan(972, 4, plans.outside(800, 1238)), 10, 2000, 2000, (10, 0)),
+            (two(1362, 1403), 11, 1362, 1403, (0, 425)), (two(1362, 1403), 11, 2000, 2000, (11, 0)),
+            (crowded, 12, 1300, 1339, (0, 425)), (crowded, 12, 1330, 1330, (12, 1300)),
+            (b([(1100, 1118)]), 13, 1119, 1119, (0, 965)), (b([(1100, 1118)]), 13, 1099, 1099, (0, 965)),
+            (b([(1100, 1118)]), 13, 1118, 1118, (13, 1000)), (b([(1100, 1104)]), 14, 1105, 1119, (0, 965)),
+            (b([(1100, 1104)]), 14, 1106, 1119, (13, 1000)),
+            (full(), 15, 148, 187, (0, 3745)), (full(), 15, 148, 186, (15, 0)), (full(), 15, 1000, 1039, (0, 3745)))
+
+
+def tried_limits(cases):
+    cases.name('neighbours of Plan A, and limits that a range can break')
+    for trial in limits():
+        attempt(cases, *trial)
+    cases.name('what a range mends')
+    for plan, ground, first, last, want in mended():
+        assert cases.model.judge(plan)[1] == ground
+        attempt(cases, plan, first, last, want)
+
+
+def tried_chains(cases):
+    """Full plans, and plans with room for one record; records off the chain behind its end, some of which point at the new one."""
+    items = plans.entries(972, 4, plans.outside(800, 1240))
+    many = plans.plan(972, 4, [(n, 799) for n in range(510)] + [(1241, 4095)])
+    full_14 = plans.plan(972, 4, [(n, 799) for n in range(509)] + [(1241, 4095), (850, 854)])
+    cases.name('full plans')
+    for plan in (many, full_14, plans.PLAN_A + bytes(4072), plans.PLAN_A + b'\xA5' * 4072):
+        for first, last in ((850, 853), (850, 854), *BAD):
+            attempt(cases, plan, first, last, (1, 0))
+    for plan, want in ((plans.next_index(many, 511, 512), (3, 511)), (plans.kind(many, 511, 4), (2, 511))):
+        for first, last in ((850, 853), (850, 854), *BAD):
+            attempt(cases, plan, first, last, want)
+    cases.name('records off the chain')
+    fillers = (bytes(8), plans.RUBBISH, plans.record(1, 0, 972, 4), plans.record(2, 0, 860, 863), plans.record(2, 6, 860, 863),
+               plans.record(2, 0, 972, 972), plans.record(3, 0, 900, 0), plans.record(3, 6, 900, 0))
+    chains = [plans.spread(items, [0, 2, 4], 6, filler) for filler in fillers]
+    chains += [plans.spread(items, [0, 3, 7], 9), plans.spread(items, [0, 1, 256], 300), plans.spread(items, [0, 1, 2], 257)]
+    for plan in (*chains, plans.OVERLAPPING_510, plans.PLAN_A + bytes(4064)):
+        attempt(cases, plan, 850, 853, (0, 421))
+        attempt(cases, plan, 850, 854, (14, 835))
+        for first, last in BAD:
+            attempt(cases, plan, first, last, (4, len(plan) // 8))
+    short = plans.spread(items[:2], [0, 1], 3, plans.record(2, 0, 1241, 4095))
+    attempt(cases, short, 1241, 4095, (0, 425))
+    attempt(cases, short, 850, 853, (6, 3949))
+
+
+def tried_numbers(cases):
+    """Every pair of ends below and above what a subcarrier and a record can be; plans refused by 1 to 5, which is tried before the
+    range; and answers of all lengths."""
+    ends = (0, 850, 853, 4095, 4096, RECORD_MAX, 65536, 65536 + 850, 65536 + 853, 2 ** 31 + 850, TOP)
+    a = plans.PLAN_A
+    cases.name('the numbers of a range')
+    for first in ends:
+        for last in ends:
+            attempt(cases, a, first, last, None if first <= last <= 4095 else (4, 3))
+    cases.name('ranges tried on plans refused by 1 to 5')
+    broken = [a[:0], a[:7], a[:8], a[:12], a + b'\0', a + bytes(4071), a + bytes(4073), a + bytes(4080),
+              plans.kind(a, 0, 2), plans.kind(a, 1, 1), plans.kind(a, 2, 4), plans.byte1(a, 2, 1), plans.next_index(a, 2, 3),
+              plans.next_index(a, 2, 2), plans.next_index(a, 1, 1), plans.next_index(a, 0, 3), plans.second(a, 2, 4096),
+              plans.first(a, 1, 800), plans.first(a, 0, 203), plans.second(a, 0, 33),
+              plans.full(pilots=plans.pilots_of_full(121))]
+    for plan in broken:
+        own = cases.model.judge(plan)[1:]
+        assert own[0] <= 5
+        for first, last in ((850, 853), (850, 854), *BAD):
+            attempt(cases, plan, first, last, own)
+    cases.name('answers of a trial')
+    for plan in (a, a[:0], broken[-1], plans.near_a([(850, 854)]), a + bytes(4072)):
+        for first, last in ((850, 853), (7, 6), (TOP, 0)):
+            for room in (0, 1, ANSWER - 1):
+                assert cases.call('try', first, last, plan=plan, answer=b'\x5A' * room)[0] == 21
+            for room in (ANSWER, ANSWER + 1, 999):
+                attempt(cases, plan, first, last, answer=b'\x5A' * room)
 
 
 # --- the modulator ---------------------------------------------------------
@@ -865,7 +1048,7 @@ def check_words():
 
 
 def check_page():
-    """The five answers that docs/C-HOST.md shows."""
+    """The six answers that docs/C-HOST.md shows."""
     model, a, page = Interface(), plans.PLAN_A, (ROOT / 'docs' / 'C-HOST.md').read_text()
     count = model.data_count(a, 126)
     steps = {'plan': a, 'store': bytes(2 * 636), 'symbol': bytes(2 * SYMBOL)}
@@ -874,6 +1057,7 @@ def check_page():
             'minus': bytes(SYMBOL), 'numbers': bytes(8 * SYMBOL)}
     for name, numbers, given in (('judge', (), {'plan': a}),
                                  ('judge', (), {'plan': plans.near_a([(850, 854)])}),
+                                 ('try', (850, 853), {'plan': a}),
                                  ('emit', (126,), {**steps, 'data': with_cell(data, 7, 16384)}),
                                  ('emit', (126,), {**steps, 'data': data}), ('modulate', (), line)):
         returned, after = model.call(name, numbers, {**given, 'answer': bytes(ANSWER)})
@@ -923,6 +1107,10 @@ def write(path, small):
     store_lengths(cases, (1, 2, 31) if small else (1, 2, 3, 4, 7, 31, 32))
     empty_buffers(cases)
     losses(cases)
+    trials(cases, RANGES[::4] if small else RANGES, 8 if small else 1, 5 if small else 200)
+    tried_limits(cases)
+    tried_chains(cases)
+    tried_numbers(cases)
     modulations(cases, 3 if small else 30, not small)
     refused_lines(cases, (0, 15, 4095) if small else (0, 1, 7, 8, 15, 16, 255, 2047, 2048, 4094, 4095))
     modulate_lengths(cases)

@@ -1,9 +1,10 @@
 #!/usr/bin/env python3
-"""A second model of the plan rules, written from the scope paper alone.
+"""A second model of the plan rules, written from the papers alone: 01, and requests 02 and 05.
 
-It judges a plan (any bytes) by grounds 1 to 15, in checking order, and knows
-the roles of the subcarriers.  It is kept plain on purpose: it is compared
-with the head end's own program, so it must be easy to hold against the paper.
+It judges a plan (any bytes) by grounds 1 to 15, in checking order, knows the
+roles of the subcarriers, and tries one more excluded range (change request 05).
+It is kept plain on purpose: it is compared with the head end's own program, so
+it must be easy to hold against the paper.
 
     python3 tests/model.py < plan
 
@@ -344,10 +345,43 @@ class Model:
         return 'data'
 
     def line(self, data):
-        p = self.judge(data)
+        return self.line_of(self.judge(data))
+
+    def line_of(self, p):
+        """The line of a refusal, or of the Map of a good plan."""
         if isinstance(p, tuple):
             return 'refused %d %d' % (p[1], p[2])
         return 'ok %d %d' % (len(self.ranks_of(p)), len(self.scattered_of(p, 0)))
+
+    # --- trying an exclusion (change request 05) -----------------------------
+
+    def last_on_chain(self, chain):
+        """The index of the last chain record."""
+        return chain[-1][0]
+
+    def new_record(self, first, last):
+        """Of kind 2, with that range and next index zero."""
+        return bytes((2, 0, 0, 0)) + first.to_bytes(2, 'big') + last.to_bytes(2, 'big')
+
+    def copy(self, data, chain, first, last):
+        """The plan with a new last record, at which the last chain record points."""
+        at = self.limits.record_bytes * self.last_on_chain(chain) + 2
+        index = len(data) // self.limits.record_bytes
+        return data[:at] + index.to_bytes(2, 'big') + data[at + 2:] + self.new_record(first, last)
+
+    def trial(self, data, first, last):
+        """The refusal of the plan by 1 to 5, else what judging the copy gives.  A number
+        above 65535, which no record can hold, is 4 at the new record."""
+        if self.length_is_bad(len(data)):
+            return ('refused', 1, 0)
+        chain = self.chain(data)
+        if isinstance(chain, tuple):
+            return chain
+        if max(first, last) > 65535:
+            if self.length_is_bad(len(data) + self.limits.record_bytes):
+                return ('refused', 1, 0)
+            return ('refused', 4, len(data) // self.limits.record_bytes)
+        return self.judge(self.copy(data, chain, first, last))
 
 
 def verdict(data, limits=Limits()):
@@ -383,6 +417,12 @@ def ranks(data, limits=Limits()):
 def line(data, limits=Limits()):
     """The line that plancheck prints, without its newline."""
     return Model(limits).line(data)
+
+
+def trial_line(data, first, last, limits=Limits()):
+    """The line that trycheck prints, without its newline."""
+    model = Model(limits)
+    return model.line_of(model.trial(data, first, last))
 
 
 if __name__ == '__main__':

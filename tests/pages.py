@@ -1,12 +1,14 @@
 #!/usr/bin/env python3
-"""Holds docs/REFUSALS.md and docs/PLAN-FILE.md to the second model and to plans/.
+"""Holds docs/REFUSALS.md, docs/PLAN-FILE.md and docs/TRYCHECK.md to the second model and to plans/.
 
     python3 tests/pages.py
 
 Each ground has its entry with its parts and its limits; each plan that is cited
 gives the line beside it; Plan A stands in PLAN-FILE.md byte for byte, decoded as
-the model decodes it; each word has its entry.  Then every cited line, every byte
-of Plan A and every entry is changed in turn, and the change must be noticed.
+the model decodes it; each word has its entry; each trial on Plan A gives the line
+beside it, and what trycheck tells of wrong words stands there as in its source.
+Then every cited line, every byte of Plan A and every entry is changed in turn, and
+the change must be noticed.
 """
 
 import re
@@ -87,7 +89,7 @@ def wrong_calls(number, text):
     steps = {'headend_emit', 'headend_flush', 'headend_receive'}
     starts = {'headend_fresh_emitter', 'headend_fresh_receiver'}
     modulate = {'headend_modulate'}
-    wanted = {16: calls() - {'headend_judge'} - modulate, 17: starts | steps | modulate, 18: {'headend_emit'},
+    wanted = {16: calls() - {'headend_judge', 'headend_try'} - modulate, 17: starts | steps | modulate, 18: {'headend_emit'},
               19: {'headend_emit'}, 20: {'headend_receive'}, 21: calls(), 22: modulate, 23: modulate, 24: set()}[number]
     if named == wanted and wanted <= calls():
         return []
@@ -165,6 +167,27 @@ def wrong_plan_file(text):
     return wrong + wrong_bytes(text) + wrong_hand(text) + wrong_lines(text)
 
 
+def wrong_trials(text):
+    """What is wrong with docs/TRYCHECK.md."""
+    trials = re.findall(r'^\| `trycheck (\d+) (\d+)` \| `([^`]+)` \|', text, flags=re.M)
+    wrong = ['trycheck %s %s does not print %s' % trial for trial in trials
+             if model.trial_line(plan('plan-a.plan'), int(trial[0]), int(trial[1])) != trial[2]]
+    wrong += [] if len(trials) == 6 else ['%d trials' % len(trials)]
+    source = (ROOT / 'crates/trycheck/src/main.rt').read_text(encoding='utf-8')
+    told = re.search(r'b"(: two words are expected[^"]*)\\n"', source)
+    if not told or '\n    trycheck%s\n' % told.group(1) not in text:
+        wrong.append('what is told of wrong words is something else')
+    return wrong
+
+
+def bent_trials(text):
+    for found in re.finditer(r'^\| `trycheck.*? (\d+)` \| `.*? (\d+)` \|', text, flags=re.M):
+        yield text[:found.start(1)] + '901' + text[found.end(1):]
+        yield text[:found.start(2)] + str(int(found.group(2)) + 1) + text[found.end(2):]
+        yield text[:found.start()] + text[text.index('\n', found.start()) + 1:]
+    yield text.replace('0 to 65535 in digits, as', '0 to 65536 in digits, as')
+
+
 def bent_lines(text):
     """The text with the last number of one cited line changed, for each."""
     for found in re.finditer(r'`(?:ok|refused) \d+ (\d+)`', text):
@@ -196,7 +219,8 @@ def bent_plan_file(text):
 
 def main():
     pages = ((wrong_refusals, bent_refusals, 'REFUSALS.md'),
-             (wrong_plan_file, bent_plan_file, 'PLAN-FILE.md'))
+             (wrong_plan_file, bent_plan_file, 'PLAN-FILE.md'),
+             (wrong_trials, bent_trials, 'TRYCHECK.md'))
     failed = False
     for wrong, bent, name in pages:
         text = (ROOT / 'docs' / name).read_text(encoding='utf-8')
@@ -205,8 +229,7 @@ def main():
             print('pages: %s: %s' % (name, sentence))
         changed = list(bent(text))
         missed = [other for other in changed if not wrong(other)]
-        print('pages: %s: %d plans cited, %d changes, %d not noticed'
-              % (name, len(cited(text)), len(changed), len(missed)))
+        print('pages: %s: %d plans cited, %d changes, %d not noticed' % (name, len(cited(text)), len(changed), len(missed)))
         failed = failed or bool(found or missed)
     return 1 if failed else 0
 

@@ -1,6 +1,7 @@
 #!/usr/bin/env bash
 # What the programs print and tell where they cannot read or write, as docs/PLANCHECK.md says: input closed, a folder, a read that fails in
-# the middle, output closed or full; and what is no failure: input that ends, that comes in small parts, or that is longer than any plan.
+# the middle, output closed or full; and what is no failure: input that ends, that comes in small parts, or that is longer than any plan;
+# and what trycheck makes of the words that it is given, as docs/TRYCHECK.md says.
 # Needs gcc, and the programs, built by `rt check` or `rt ci`.
 #
 #     tests/programs.sh            the programs of target/bin
@@ -77,23 +78,31 @@ said() {
     is "$3" "$work/err" || differs "$1: standard error has: $(head -c 200 "$work/err")"
 }
 
-# each PROGRAM LINES LESS FIRST: on its stored input it prints these lines; where the last byte is not read LESS of them, and where nothing
-# is read only FIRST.
+# The stored words of a program; all but trycheck have none.
+words() {
+    [ ! -e "crates/$1/args" ] || cat "crates/$1/args"
+}
+
+# each PROGRAM LINES LESS FIRST: on its stored input and words it prints these lines; where the last byte is not read LESS of them, and
+# where nothing is read only FIRST. Other words are ignored by all but trycheck.
 each() {
-    local program=$1 given=crates/$1/stdin unread="$1: standard input cannot be read"
-    try "$bin/$program" < "$given"
+    local program=$1 given=crates/$1/stdin unread="$1: standard input cannot be read" run
+    run="$bin/$program $(words $program)"
+    try $run < "$given"
     said "$program" "$2" ''
-    try "$bin/$program" plans/refused-14.plan --help < "$given"
-    said "$program with arguments" "$2" ''
-    try env READ_STEP=1000 LD_PRELOAD="$work/reads.so" "$bin/$program" < "$given"
+    if [ ! -e "crates/$1/args" ]; then
+        try $run plans/refused-14.plan --help < "$given"
+        said "$program with arguments" "$2" ''
+    fi
+    try env READ_STEP=1000 LD_PRELOAD="$work/reads.so" $run < "$given"
     said "$program on input in parts" "$2" ''
-    try "$bin/$program" <&-
+    try $run <&-
     said "$program with its input closed" "$4" "$unread"
-    try "$bin/$program" < .
+    try $run < .
     said "$program on a folder" "$4" "$unread"
-    part 3 "$bin/$program" < "$given"
+    part 3 $run < "$given"
     said "$program where the read fails after 3 bytes" "$4" "$unread"
-    part $(($(wc -c < "$given") - 1)) "$bin/$program" < "$given"
+    part $(($(wc -c < "$given") - 1)) $run < "$given"
     said "$program where the last byte is not read" "$3" "$unread"
 }
 
@@ -110,9 +119,9 @@ unwritten() {
     for output in full closed; do
         status=0
         if [ $output = full ]; then
-            "$bin/$1" < "$given" > /dev/full 2> "$work/err" || status=$?
+            "$bin/$1" $(words $1) < "$given" > /dev/full 2> "$work/err" || status=$?
         else
-            "$bin/$1" < "$given" >&- 2> "$work/err" || status=$?
+            "$bin/$1" $(words $1) < "$given" >&- 2> "$work/err" || status=$?
         fi
         said "$1 with its output $output" '' "$1: standard output cannot be written"
     done
@@ -120,23 +129,79 @@ unwritten() {
 
 # The bench programs: no bytes, a read that fails on a plan's record, and input that is longer than any plan.
 bench() {
-    local program=$1 unread="$1: standard input cannot be read"
-    try "$bin/$program" < /dev/null
+    local program=$1 unread="$1: standard input cannot be read" run
+    run="$bin/$program $(words $program)"
+    try $run < /dev/null
     said "$program on no bytes" 'refused 1 0' ''
     for bytes in 8 16 24; do
-        part $bytes "$bin/$program" < plans/plan-a.plan
+        part $bytes $run < plans/plan-a.plan
         said "$program where the read fails after $bytes bytes" '' "$unread"
     done
     head -c 70000 /dev/zero > "$work/long"
-    part 65535 "$bin/$program" < "$work/long"
+    part 65535 $run < "$work/long"
     said "$program where the read fails after 65,535 bytes" '' "$unread"
-    part 65536 "$bin/$program" < "$work/long"
+    part 65536 $run < "$work/long"
     said "$program where the read fails after 65,536 bytes" 'refused 1 0' ''
     set +e
-    head -c 67108864 /dev/zero | "$bin/$program" > "$work/out" 2> "$work/err"
+    head -c 67108864 /dev/zero | $run > "$work/out" 2> "$work/err"
     status=$((PIPESTATUS[0] + PIPESTATUS[1]))
     set -e
     said "$program on 64 MiB, with the status of their writer" 'refused 1 0' ''
+}
+
+# ranged LINES WORDS ..: trycheck with these words on Plan A prints these lines, and tells nothing.
+ranged() {
+    local lines=$1
+    shift
+    try "$bin/trycheck" "$@" < plans/plan-a.plan
+    said "trycheck with the words: $*" "$lines" ''
+}
+
+# unranged WORDS ..: these are no range. trycheck tells what it expects, prints nothing and reads nothing.
+unranged() {
+    local expected='trycheck: two words are expected, the first and the last subcarrier of a range, each a number from 0 to 65535 in digits,'
+    expected="$expected as in: trycheck 850 853"
+    try "$bin/trycheck" "$@" < plans/plan-a.plan
+    said "trycheck with the words: $*" '' "$expected"
+    try "$bin/trycheck" "$@" <&-
+    said "trycheck with its input closed and the words: $*" '' "$expected"
+}
+
+# The words of trycheck: how many, what they hold, how large and how long they are.
+ranges() {
+    local zeros
+    zeros=$(printf '%061d' 0)
+    ranged 'ok 421 3' 850 853
+    ranged 'refused 14 835' 850 854
+    ranged 'ok 421 3' 0850 000853
+    ranged 'ok 421 3' "${zeros}850" "${zeros}853"
+    ranged 'refused 4 3' 853 850
+    ranged 'refused 4 3' 65535 65535
+    ranged 'refused 4 3' 0 4096
+    ranged 'ok 425 4' 0 0
+    unranged
+    unranged 850
+    unranged 850 853 854
+    unranged '' 853
+    unranged 850 ''
+    unranged '850 853'
+    unranged 850 '853 '
+    unranged ' 850' 853
+    unranged +850 853
+    unranged 850 -853
+    unranged -850 853
+    unranged 850 853a
+    unranged x850 853
+    unranged 0x352 853
+    unranged 850 8.53
+    unranged 850 1e3
+    unranged 65536 65536
+    unranged 0 65536
+    unranged 66386 66389
+    unranged 4294968146 4294968149
+    unranged 850 18446744073709552469
+    unranged "${zeros}0850" 853
+    unranged --help
 }
 
 # A program that is stopped and goes on while it reads has not failed.
@@ -162,27 +227,29 @@ stack() {
     local given
     given=$(given "$1")
     status=0
-    (ulimit -s "$2" && exec env -i "$bin/$1" < "$given") > "$work/out" 2> "$work/err" || status=$?
+    (ulimit -s "$2" && exec env -i "$bin/$1" $(words $1) < "$given") > "$work/out" 2> "$work/err" || status=$?
     said "$1 with a stack of $2 KiB" "$(cat "crates/$1/stdout")" ''
 }
 
-for program in plancheck linkcheck; do
+for program in plancheck trycheck linkcheck; do
     each $program "$(cat crates/$program/stdout)" '' ''
 done
-for program in plancases emitcases receivecases modulatecases; do
+for program in plancases trycases emitcases receivecases modulatecases; do
     each $program "$(cat crates/$program/stdout)" "$(sed '$d' crates/$program/stdout)" ''
 done
 each rolecases "$(cat crates/rolecases/stdout)" "$(sed '$d' crates/rolecases/stdout)" "$(head -n 1 crates/rolecases/stdout)"
-for program in plancheck linkcheck plancases rolecases emitcases receivecases pointcases modulatecases; do
+for program in plancheck trycheck linkcheck plancases trycases rolecases emitcases receivecases pointcases modulatecases; do
     unwritten $program
 done
-bench plancheck
-bench linkcheck
+for program in plancheck trycheck linkcheck; do
+    bench $program
+done
+ranges
 stopped
 grep -oE '^- `[a-z]+`: [0-9]+ KiB' docs/PLANCHECK.md | tr -d '`:-' > "$work/stacks"
 while read -r program size unit; do
     stack "$program" "$size"
 done < "$work/stacks"
-[ "$(wc -l < "$work/stacks")" -eq 8 ] || differs 'docs/PLANCHECK.md does not give the stack of eight programs'
+[ "$(wc -l < "$work/stacks")" -eq 10 ] || differs 'docs/PLANCHECK.md does not give the stack of ten programs'
 [ $differences -eq 0 ] || { echo "programs.sh: $differences differences in $runs runs"; exit 1; }
 echo "programs.sh: $runs runs, all as said"

@@ -12,6 +12,8 @@ use Rattle.counting.proofs.Bools.{by-test}
 use Rattle.rules.specs.declared.Device.{Device}
 use Rattle.rules.specs.declared.Finding.{Finding}
 use Rattle.rules.specs.declared.Finding.the-variants.{Fine, Ground}
+use Rattle.rules.specs.declared.Verdict.{Verdict}
+use Rattle.rules.specs.declared.Verdict.the-variants.{Refused}
 use Rattle.rules.specs.declared.RoleAnswer.{RoleAnswer}
 use Rattle.rules.specs.declared.RoleAnswer.the-variants as a-role
 use Rattle.rules.specs.declared.CountAnswer.{CountAnswer}
@@ -28,6 +30,8 @@ use Rattle.rules.specs.Store.{emitterPlaces, receiverPlaces, freshStore, filler
 use Rattle.rules.specs.Steps.{Emitter, Send, Sending, Starting, starts, refused, ground16, shortStore, ground17, givenGrounds, sendGrounds, accepted, frameStep, startGrounds, frameStart, frameCount, sendStep, startStep, dataCountAnswer}
 use Rattle.rules.specs.Receive as receive
 use Rattle.rules.specs.Receive.{Receiver, Arrival, Receiving, Listening, listens, turnedAway, shortBuffer, wrongCell, receiverGround16, receiverGround17, ground20, receiveGrounds, received, frameReceive, frameListen, hearStep, listenStep}
+use Rattle.copies.specs.Copy.{copyWith}
+use Rattle.exclusion.specs.Trial.{trialVerdict, tooLarge, wideTrial}
 use Rattle.answers.specs.Answer.{toldVerdict, toldRole, toldCount, toldStart, toldListen, toldSend, toldReceive}
 use Rattle.runs.specs.Run.{isStarted, isListening, isSent, isReceived}
 use Rattle.callruns.specs.Host.{isAccepted, isRole, isCount}
@@ -125,14 +129,24 @@ unfolding numbered
 by-ground number ok Fine made away h hm ha = hm
 by-ground number ok (Ground n place) made away h hm ha = ap (λ (x : ℕ). eqb x 0) (ha n place .0) ∙ not-true (eqb n 0) h ∙ sym (ha n place .1)
 
+-- a verdict that a finding makes
+answer-zero : (f : Finding) (m : ℕ) → numbered f ≡ true → eqb (toldVerdict (answer f m) .number) 0 ≡ isAccepted (answer f m)
+unfolding numbered
+answer-zero Fine m h = refl
+answer-zero (Ground n place) m h = not-true (eqb n 0) h
+
+pub verdict-zero : (d : Device) (s : List ℕ) → eqb (toldVerdict (verdict d s) .number) 0 ≡ isAccepted (verdict d s)
+unfolding verdict
+verdict-zero d s = answer-zero (grounds1to15 d s) (rankedCount d (planOf s)) (plan-numbered d s)
+
 module _ (d : Device) (s : List ℕ) where
-  pub verdict-zero : eqb (toldVerdict (verdict d s) .number) 0 ≡ isAccepted (verdict d s)
-  unfolding verdict
-  verdict-zero = go (grounds1to15 d s) (plan-numbered d s)
-    where
-      go : (f : Finding) → numbered f ≡ true → eqb (toldVerdict (answer f (rankedCount d (planOf s))) .number) 0 ≡ isAccepted (answer f (rankedCount d (planOf s)))
-      go Fine h = refl
-      go (Ground n place) h = not-true (eqb n 0) (unfold numbered in h)
+  pub trial-zero : (first last : ℕ) → eqb (toldVerdict (wideTrial d s first last) .number) 0 ≡ isAccepted (wideTrial d s first last)
+  unfolding wideTrial trialVerdict
+  trial-zero a b =
+      by-test (tooLarge a b)
+      (λ t. rw t (answer-zero (grounds1to5 d s else ground? 1 (when (ltb 4096 (length s + 8)) 0) else Ground 4 (length s / 8)) 0
+      (both (grounds1to5 d s) _ (early-numbered d s) (more 1 (when (ltb 4096 (length s + 8)) 0) (Ground 4 (length s / 8)) refl (unfold numbered in refl)))))
+      (λ t. rw t (by-ground (λ (v : Verdict). toldVerdict v .number) isAccepted (grounds1to5 d s) (verdict d (copyWith s a b)) Refused (early-numbered d s) (verdict-zero d (copyWith s a b)) (λ n place. (refl, refl))))
 
   pub role-zero : (k j : ℕ) → eqb (toldRole (roleAnswer d s k j) .number) 0 ≡ isRole (roleAnswer d s k j)
   unfolding roleAnswer roleIn

@@ -20,12 +20,13 @@ use Rattle.rules.specs.Receive.{receiveStep}
 use Rattle.bytecells.specs.Octets.{cellsOf, odd}
 use Rattle.bytecells.specs.ByteSteps.{startBytes, listenBytes, emitBytes, flushBytes, receiveBytes}
 use Rattle.bytemodulate.specs.ByteSymbols.{modulateBytes}
+use Rattle.exclusion.specs.Trial.{wideTrial}
 use Rattle.answers.specs.declared.Told.{Told}
 use Rattle.answers.specs.Answer.{short, written, toldVerdict, toldRole, toldCount, toldStart, toldListen, toldSend, toldReceive}
 use Rattle.runs.specs.Run.{isStarted, isListening, isSent, isReceived}
-use Rattle.headend.specs.Calls.{Said, says, StoreSaid, saysStore, StepSaid, saysStep, NumbersSaid, saysNumbers, startTold, listenTold, sendTold, receiveTold, modulateTold, judgeCall, roleCall, countCall, startCall, listenCall, emitCall, flushCall, receiveCall, modulateCall}
+use Rattle.headend.specs.Calls.{Said, says, StoreSaid, saysStore, StepSaid, saysStep, NumbersSaid, saysNumbers, startTold, listenTold, sendTold, receiveTold, modulateTold, judgeCall, tryCall, roleCall, countCall, startCall, listenCall, emitCall, flushCall, receiveCall, modulateCall}
 use Rattle.callruns.specs.Host.{isAccepted, isRole, isCount, isModulated, ZeroIsAccepted}
-use Rattle.callruns.proofs.Numbers.{verdict-zero, role-zero, count-zero, start-zero, listen-zero, send-zero, hear-zero}
+use Rattle.callruns.proofs.Numbers.{verdict-zero, trial-zero, role-zero, count-zero, start-zero, listen-zero, send-zero, hear-zero}
 use Rattle.callruns.proofs.Modulated.{modulate-bytes}
 
 -- the number of x where b holds, 21, and else of y
@@ -68,9 +69,10 @@ module _ (d : Device) (s : List ℕ) where
   told-zero a t ok h = zero (λ (x : Said). x .number) (short a) (says 21 a) (says (t .number) (written a t)) ok refl h
 
   pub zero-is-accepted : ZeroIsAccepted d s
-  unfolding judgeCall roleCall countCall startCall listenCall emitCall flushCall receiveCall modulateCall
+  unfolding judgeCall tryCall roleCall countCall startCall listenCall emitCall flushCall receiveCall modulateCall
   zero-is-accepted = record {
     judged = λ a. told-zero a (toldVerdict (verdict d s)) (isAccepted (verdict d s)) (verdict-zero d s);
+    tried = λ first last a. told-zero a (toldVerdict (wideTrial d s first last)) (isAccepted (wideTrial d s first last)) (trial-zero d s first last);
     role = λ k j a. told-zero a (toldRole (roleAnswer d s k j)) (isRole (roleAnswer d s k j)) (role-zero d s k j);
     counted = λ j a. told-zero a (toldCount (dataCountAnswer d s j)) (isCount (dataCountAnswer d s j)) (count-zero d s j);
     started = λ j store a.

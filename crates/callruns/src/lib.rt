@@ -15,7 +15,7 @@ ghost use Rattle.runs.specs.Claims.{PlanClaims};
 ghost use Rattle.callruns.specs.Host.{ZeroIsAccepted, ZeroIsWarming};
 ghost use Rattle.callruns.specs.CallEntries.{callEntries, AnyBuffer};
 
-// Any bytes as a plan: each of the nine calls returns 0 exactly if nothing refuses.
+// Any bytes as a plan: each of the ten calls returns 0 exactly if nothing refuses.
 pub fn zero_is_accepted()
     ensures { λ _. ⌜ ((s : List ℕ) → ZeroIsAccepted khz50 s) ⌝ }
 {}

@@ -46,8 +46,8 @@ pub fn read(bytes: &mut [u8]) -> Input
     Input::Bytes(done)
 }
 
-// Tells standard error what the program of this name could not do.
-fn tell(program: &[u8], what: &[u8]) {
+// Tells standard error what the program of this name could not do, or what it expects.
+pub fn tell(program: &[u8], what: &[u8]) {
     io::write_all(2, program);
     io::write_all(2, what);
 }

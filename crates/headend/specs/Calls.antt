@@ -1,4 +1,4 @@
--- The calls for a C host (requests 01 and 04): too short an answer buffer is ground 21 and leaves all as it is; else a call returns and
+-- The calls for a C host (requests 01, 04 and 05): too short an answer buffer is ground 21 and leaves all as it is; else a call returns and
 -- leaves what the entry beneath it answers and leaves. Assumes nothing.
 use Prim.Native.Nat.{ℕ}
 use mathlib.Core.List.{List}
@@ -9,6 +9,7 @@ use Rattle.rules.specs.Grounds.{verdict}
 use Rattle.rules.specs.Answers.{roleAnswer}
 use Rattle.rules.specs.Steps.{Starting, Sending, dataCountAnswer}
 use Rattle.rules.specs.Receive.{Listening, Receiving}
+use Rattle.exclusion.specs.Trial.{wideTrial}
 use Rattle.bytecells.specs.ByteSteps.{startBytes, listenBytes, emitBytes, flushBytes, receiveBytes}
 use Rattle.modulator.specs.Symbols.{Modulating}
 use Rattle.bytemodulate.specs.ByteSymbols.{modulateBytes}
@@ -71,6 +72,10 @@ modulateTold r a = saysNumbers (toldModulate (r .answer) .number) (r .numbers) (
 module _ (d : Device) (s : List ℕ) where
   unfoldable pub judgeCall : List ℕ → Said
   judgeCall a = telling a (toldVerdict (verdict d s))
+
+  -- the first and the last number of the range
+  unfoldable pub tryCall : ℕ → ℕ → List ℕ → Said
+  tryCall first last a = telling a (toldVerdict (wideTrial d s first last))
 
   -- the subcarrier and the phase
   unfoldable pub roleCall : ℕ → ℕ → List ℕ → Said

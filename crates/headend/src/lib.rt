@@ -3,7 +3,7 @@
 // out in the buffer.
 ghost use mathlib.Core.Path.{_≡_};
 ghost use Rattle.rules.specs.Device.{khz50};
-ghost use Rattle.headend.specs.Calls.{says, saysStore, saysStep, saysNumbers, judgeCall, roleCall, countCall, startCall, listenCall, emitCall, flushCall, receiveCall, modulateCall};
+ghost use Rattle.headend.specs.Calls.{says, saysStore, saysStep, saysNumbers, judgeCall, tryCall, roleCall, countCall, startCall, listenCall, emitCall, flushCall, receiveCall, modulateCall};
 use rules::EmitterState;
 use rules::ReceiverState;
 
@@ -19,6 +19,20 @@ pub extern "C" fn headend_judge(plan: &[u8], answer: &mut [u8]) -> u32
         return 21;
     }
     answers::tell(answer, answers::told_verdict(judge::judge(plan)))
+}
+
+// What one more excluded range would do to a plan.
+#[no_mangle]
+pub extern "C" fn headend_try(plan: &[u8], first: u32, last: u32, answer: &mut [u8]) -> u32
+    ensures { λ r. ⌜ says r (now (answer .exit)) ≡ tryCall khz50 (now (plan .entry)) first last (now (answer .entry)) ⌝ }
+{
+    if answer.len() < ANSWER {
+        return 21;
+    }
+    answers::tell(
+        answer,
+        answers::told_verdict(exclusion::try_numbers(plan, first, last)),
+    )
 }
 
 // The role of a subcarrier at a phase.

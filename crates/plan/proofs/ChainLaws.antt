@@ -14,10 +14,12 @@ use Rattle.rules.specs.declared.Finding.{Finding}
 use Rattle.rules.specs.declared.Finding.the-variants.{Fine, Ground}
 use Rattle.rules.specs.Plan.{Entry, entry, leads, chain, chainFrom, only, isRange, isPilot}
 use Rattle.rules.specs.Bands.{any, covers}
-use Rattle.rules.specs.Grounds.{_else_, recordGrounds, chainGrounds}
+use Rattle.rules.specs.Grounds.{_else_, badLength, recordGrounds, chainGrounds}
 use Rattle.ranges.specs.Reach.{hit, Table, Flags}
 use Rattle.records.specs.Read.{foundAt}
-use Rattle.records.proofs.RecordLaws.{fine-few, fine-next}
+use Rattle.records.proofs.RecordLaws.{fine-few, fine-next, length-fine}
+use Rattle.chains.specs.Last.{lastOf, lastIndex}
+use Rattle.chains.proofs.LastLaws.{last-any}
 use Rattle.plan.specs.Walk.{Left, Kept, Turned, PutIf, Taken}
 
 -- an entry knows its index
@@ -27,12 +29,12 @@ index-is s i eq = ap (λ (x : Entry). x .index) eq
 
 -- where the loop stands, a record is left
 at-record : {P : Type 0} {d : Device} {s : List ℕ} {r i np : ℕ} {reach hot pil rec : List ℕ} → Kept d s r i np reach hot pil rec
-    → ((n : ℕ) → r ≤ suc n + i → Left d s r np reach hot pil rec (chainFrom s r (suc n) i) → P) → P
-at-record {P} {d} {s} {r} {i} {np} {reach} {hot} {pil} {rec} k h = go (k .steps) (k .enough) (k .left)
+    → ((n : ℕ) → r ≤ suc n + i → Left d s r np reach hot pil rec (chainFrom s r (suc n) i) → lastOf i (chainFrom s r (suc n) i) ≡ lastIndex s → P) → P
+at-record {P} {d} {s} {r} {i} {np} {reach} {hot} {pil} {rec} k h = go (k .steps) (k .enough) (k .left) (k .last)
   where
-    go : (n : ℕ) → r ≤ n + i → Left d s r np reach hot pil rec (chainFrom s r n i) → P
-    go zero l w = absurd (omega (arith, k .here))
-    go (suc n) l w = h n l w
+    go : (n : ℕ) → r ≤ n + i → Left d s r np reach hot pil rec (chainFrom s r n i) → lastOf i (chainFrom s r n i) ≡ lastIndex s → P
+    go zero l w q = absurd (omega (arith, k .here))
+    go (suc n) l w q = h n l w q
 
 -- one entry more
 module _ (e : Entry) (es : List Entry) where
@@ -85,22 +87,35 @@ module _ {d : Device} {s : List ℕ} {r np m : ℕ} {reach hot pil rec reach' ho
         sym (ap (λ (x : Entry). x ∷ elim (leads r i (x .next)) [ true ↦ chainFrom s r n (x .next) | false ↦ [] ]) eq)
         ∙ ap (λ (t : Bool). e ∷ elim t [ true ↦ chainFrom s r n (e .next) | false ↦ [] ]) g
 
-    last : e .next ≡ 0 → Left d s r m reach' hot' pil' rec' []
+    ends : (n : ℕ) → e .next ≡ 0 → chainFrom s r (suc n) i ≡ e ∷ []
     unfolding leads
-    last z = at-record k (λ n l w. left-take [] (subst (Left d s r np reach hot pil rec) (chain-step n false (ap (λ (b : Bool). b && ltb (e .next) r) (le-ltb i (e .next) (omega arith)))) w))
+    ends n z = chain-step n false (ap (λ (b : Bool). b && ltb (e .next) r) (le-ltb i (e .next) (omega arith)))
+
+    goes-on : (n : ℕ) → i < e .next → e .next < r → chainFrom s r (suc n) i ≡ e ∷ chainFrom s r n (e .next)
+    unfolding leads
+    goes-on n a b = chain-step n true (λ q. lt-ltb i (e .next) a q && lt-ltb (e .next) r b q)
+
+    last : e .next ≡ 0 → Left d s r m reach' hot' pil' rec' []
+    last z = at-record k (λ n l w q. left-take [] (subst (Left d s r np reach hot pil rec) (ends n z) w))
+
+    here : e .next ≡ 0 → i ≡ lastIndex s
+    unfolding lastOf
+    here z = at-record k (λ n l w q. sym (index-is s i eq) ∙ sym (ap (lastOf i) (ends n z)) ∙ q)
 
     on : i < e .next → e .next < r → Kept d s r (e .next) m reach' hot' pil' rec'
-    unfolding leads
-    on a b = at-record k (λ n l w. record {
+    unfolding lastOf
+    on a b = at-record k (λ n l w q. record {
       here = b;
       steps = n;
       enough = omega arith;
-      left = left-take (chainFrom s r n (e .next)) (subst (Left d s r np reach hot pil rec) (chain-step n true (λ q. lt-ltb i (e .next) a q && lt-ltb (e .next) r b q)) w);
+      left = left-take (chainFrom s r n (e .next)) (subst (Left d s r np reach hot pil rec) (goes-on n a b) w);
+      last = last-any s r n (e .next) (e .next) (e .index) b (omega arith) ∙ sym (ap (lastOf i) (goes-on n a b)) ∙ q;
     })
 
     pub turned : Turned d s r i m (e .next) reach' hot' pil' rec'
     turned = record {
       last = last;
+      here = here;
       rise = λ ne. rise (fine-next d r np e f ne .0);
       on = λ ne. let h = fine-next d r np e f ne in on (rise (h .0)) (h .1);
     }
@@ -112,7 +127,7 @@ module _ {d : Device} {s : List ℕ} {r np m : ℕ} {reach hot pil rec reach' ho
 module _ {d : Device} {s : List ℕ} {r i np g place : ℕ} {reach hot pil rec : List ℕ} {e : Entry} (eq : e ≡ entry s i) (k : Kept d s r i np reach hot pil rec) where
   pub stopped : recordGrounds d r np e ≡ Ground g place → chainGrounds d r 0 (chain s) ≡ Ground g place
   unfolding chainGrounds chainFrom
-  stopped f = at-record k (λ n l w.
+  stopped f = at-record k (λ n l w q.
       w .finding
       ∙ ap (λ (x : Finding). x else chainGrounds d r (np + bit (isPilot (entry s i))) (elim (leads r i (entry s i .next)) [ true ↦ chainFrom s r n (entry s i .next) | false ↦ [] ]))
       (sym (ap (recordGrounds d r np) eq) ∙ f))
@@ -121,12 +136,12 @@ pub found-some : (g : ℕ) {i place : ℕ} → i ≡ place → (g ≡ 0 → ⊥)
 found-some zero eq ne = absurd (ne refl)
 found-some (suc g) eq ne = ap (Ground (suc g)) eq
 
--- the loop begins at record 0
-pub kept-start : {d : Device} {s reach hot pil rec : List ℕ} → 0 < length s / 8 → Table reach (d .subcarriers) → Flags reach hot → ((k : ℕ) → hit reach k ≡ false) → length pil ≡ 128 → length rec ≡ 128
-    → Kept d s (length s / 8) 0 0 reach hot pil rec
-unfolding chain
-kept-start {d} {s} {reach} l t f z lp lr = record {
-  here = l;
+-- the walk begins at record 0, with empty tables
+pub kept-start : {d : Device} {s reach hot pil rec : List ℕ} → Table reach (d .subcarriers) → Flags reach hot → ((k : ℕ) → hit reach k ≡ false) → length pil ≡ 128 → length rec ≡ 128
+    → badLength s ≡ false → Kept d s (length s / 8) 0 0 reach hot pil rec
+unfolding chain lastIndex
+kept-start {d} {s} {reach} t f z lp lr good = record {
+  here = omega (arith, length-fine s good .some);
   steps = length s / 8;
   enough = omega arith;
   left = record {
@@ -140,4 +155,5 @@ kept-start {d} {s} {reach} l t f z lp lr = record {
     lp = lp;
     lr = lr;
   };
+  last = refl;
 }

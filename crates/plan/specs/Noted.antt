@@ -9,11 +9,12 @@ use Rattle.rules.specs.declared.Finding.the-variants.{Fine, Ground}
 use Rattle.rules.specs.Plan.{Entry, planOf}
 use Rattle.rules.specs.Bands.{excluded}
 use Rattle.ranges.specs.Reach.{hit, Table, Flags}
+use Rattle.chains.specs.Last.{lastIndex}
 use Rattle.plan.specs.declared.Chain.{Chain}
 use Rattle.plan.specs.declared.Chain.the-variants.{Good, Bad}
 
 abbrev pub findingOf : Chain → Finding
-findingOf (Good np) = Fine
+findingOf (Good np last) = Fine
 findingOf (Bad g place) = Ground g place
 
 -- after a good chain with np pilots: the table of ranges covers what is excluded, and the lists hold the pilots and their records
@@ -31,7 +32,7 @@ pub record Noted (d : Device) (s : List ℕ) (np : ℕ) (reach hot pil rec : Lis
   pub plcLow : d .lowPlc ≤ planOf s .plc
   pub plcHigh : planOf s .plc ≤ d .highPlc
 
--- nothing is said of the tables where a ground holds
+-- the tables, and the last record of the chain; nothing is said of either where a ground holds
 abbrev pub Filled : Chain → Device → List ℕ → List ℕ → List ℕ → List ℕ → List ℕ → Type 0
-Filled (Good np) d s reach hot pil rec = Noted d s np reach hot pil rec
+Filled (Good np last) d s reach hot pil rec = Noted d s np reach hot pil rec × (last ≡ lastIndex s)
 Filled (Bad g place) d s reach hot pil rec = Unit {0}

@@ -10,6 +10,7 @@ use Rattle.rules.specs.Plan.{Entry, chain, chainFrom, only, isRange, isPilot}
 use Rattle.rules.specs.Bands.{any, covers}
 use Rattle.rules.specs.Grounds.{chainGrounds, pilotsMax}
 use Rattle.ranges.specs.Reach.{hit, Table, Flags, NotedIf}
+use Rattle.chains.specs.Last.{lastOf, lastIndex}
 
 -- the grounds before the entries es of the chain do not hold, and the ranges and np pilots before es are in the tables
 pub record Left (d : Device) (s : List ℕ) (r np : ℕ) (reach hot pil rec : List ℕ) (es : List Entry) : Type 0 where
@@ -29,10 +30,12 @@ pub record Kept (d : Device) (s : List ℕ) (r i np : ℕ) (reach hot pil rec : 
   pub steps : ℕ
   pub enough : r ≤ steps + i
   pub left : Left d s r np reach hot pil rec (chainFrom s r steps i)
+  pub last : lastOf i (chainFrom s r steps i) ≡ lastIndex s
 
 -- a record has been taken: if its next index is zero, the chain ends there, else the loop goes on at the next index
 pub record Turned (d : Device) (s : List ℕ) (r i np next : ℕ) (reach hot pil rec : List ℕ) : Type 0 where
   pub last : next ≡ 0 → Left d s r np reach hot pil rec []
+  pub here : next ≡ 0 → i ≡ lastIndex s
   pub rise : (next ≡ 0 → ⊥) → i < next
   pub on : (next ≡ 0 → ⊥) → Kept d s r next np reach hot pil rec
 

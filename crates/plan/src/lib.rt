@@ -1,18 +1,18 @@
 // Grounds 1 to 5 along the chain of a plan (those of one record are crate recordgrounds'), and the tables that are filled on the way:
 // excluded ranges go into `reach` and `hot` (crate ranges), the numbers of the kind 3 records, in the order of the chain, into
-// `pil`, and their indices into `rec`.
+// `pil`, and their indices into `rec`. The walk starts at record 0, or goes on at a later one with the tables of those before it.
 ghost use mathlib.Core.Path.{_≡_};
 ghost use mathlib.Core.Bool.{true, false};
 ghost use lib.ListN.{length};
-ghost use Prim.Native.Nat.{ℕ, _+_, _≤_, _<_};
+ghost use Prim.Native.Nat.{_+_, _/_, _≤_, _<_};
 ghost use Rattle.counting.specs.Search.{bit};
 ghost use Rattle.rules.specs.Fits.{Fits};
 ghost use Rattle.rules.specs.Plan.{isRange};
-ghost use Rattle.rules.specs.Grounds.{grounds1to5, pilotsMax};
-ghost use Rattle.ranges.specs.Reach.{hit, Table, Flags};
+ghost use Rattle.rules.specs.Grounds.{badLength, grounds1to5, pilotsMax};
+ghost use Rattle.ranges.specs.Reach.{Table, Flags};
 ghost use Rattle.records.specs.Read.{entryOf, Narrow};
 ghost use Rattle.plan.specs.Noted.{findingOf, Filled};
-ghost use Rattle.plan.specs.Walk.{PutIf, Taken};
+ghost use Rattle.plan.specs.Walk.{PutIf, Taken, Kept};
 use ranges::note_if;
 use recordgrounds::record_ground;
 use records::Record;
@@ -20,9 +20,9 @@ use records::bad_length;
 use records::record_at;
 use rules::Device;
 
-// A good chain with so many pilots, or the number and place of the first ground.
+// A good chain with so many pilots and the index of its last record, or the number and place of the first ground.
 pub enum Chain {
-    Good(usize),
+    Good(usize, usize),
     Bad(u32, u32),
 }
 
@@ -68,24 +68,27 @@ fn take_record(
     one_more(np, e.kind == 3)
 }
 
-// Grounds 1 to 5; the ranges and the pilots of a good chain go into the tables.
+// Grounds 1 to 5; the ranges and the pilots of a good chain go into the tables. The walk goes on at record `from` of the chain, in whose
+// records before it no ground holds; their ranges and `before` pilots are in the tables.
 pub fn walk_chain(
     d: Device,
     plan: &[u8],
+    from: usize,
+    before: usize,
     reach: &mut [u16; 4096],
     hot: &mut [u8; 256],
     pil: &mut [u16; 128],
     rec: &mut [u16; 128],
 ) -> Chain
-    requires { ⌜ Fits d × Table (now reach) (d .subcarriers) × Flags (now reach) (now hot) × ((k : ℕ) → hit (now reach) k ≡ false) × (length (now pil) ≡ 128) × (length (now rec) ≡ 128) ⌝ }
+    requires { ⌜ Fits d × (badLength (now plan) ≡ false → Kept d (now plan) (length (now plan) / 8) from before (now reach) (now hot) (now pil) (now rec)) ⌝ }
     ensures { λ r. ⌜ (findingOf r ≡ grounds1to5 d (now (plan .entry))) × Filled r d (now (plan .entry)) (now (reach .exit)) (now (hot .exit)) (now (pil .exit)) (now (rec .exit)) ⌝ }
 {
     if bad_length(plan) {
         return Chain::Bad(1, 0);
     }
     let records = plan.len() / 8;
-    let mut i: usize = 0;
-    let mut np: usize = 0;
+    let mut i = from;
+    let mut np = before;
     loop {
         let e = record_at(plan, i);
         let g = record_ground(d, records, np, e);
@@ -94,7 +97,7 @@ pub fn walk_chain(
         }
         np = take_record(d.subcarriers, np, e, reach, hot, pil, rec);
         if e.next == 0 {
-            return Chain::Good(np);
+            return Chain::Good(np, i);
         }
         i = e.next;
     }

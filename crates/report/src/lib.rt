@@ -22,7 +22,7 @@ pub fn plan_line(plan: &[u8]) -> Line
 }
 
 // The line of an accepted plan, whose N_I is n.
-fn counted_line(plan: &[u8], n: u32) -> Line
+pub fn counted_line(plan: &[u8], n: u32) -> Line
     requires { ⌜ Accepted n ≡ verdict khz50 (now plan) ⌝ }
     ensures { λ r. ⌜ written r ≡ planLine (now (plan .entry)) ⌝ }
     ensures { λ r. ⌜ Counts (r .len) (r .text) ⌝ }

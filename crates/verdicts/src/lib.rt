@@ -1,11 +1,14 @@
-// The verdict on a plan and the marks of an accepted one, for any device that fits. `study` is for the crates above: it asks for the array that
-// it fills with marks.
+// The verdict on a plan and the marks of an accepted one, for any device that fits. `study` and `study_from` are for the crates above: they
+// ask for the array that they fill with marks.
 ghost use mathlib.Core.Path.{_≡_};
+ghost use mathlib.Core.Bool.{false};
+ghost use Prim.Native.Nat.{_/_};
 ghost use lib.ListN.{length};
-ghost use Rattle.rules.specs.Grounds.{grounds1to5, verdict};
+ghost use Rattle.rules.specs.Grounds.{badLength, grounds1to5, verdict};
 ghost use Rattle.rules.specs.declared.Finding.the-variants.{Fine};
 ghost use Rattle.rules.specs.Fits.{Fits};
 ghost use Rattle.plan.specs.Noted.{Noted};
+ghost use Rattle.plan.specs.Walk.{Kept};
 ghost use Rattle.verdicts.specs.Studied.{StudiedIf};
 use plan::Chain;
 use rules::Device;
@@ -36,6 +39,28 @@ fn study_tables(
     }
 }
 
+// Grounds 1 to 15 of a plan whose chain goes on at record `from`: no ground holds in the records before it, and their ranges and `before`
+// pilots are in the tables. Where the plan is accepted, m holds the mark of every subcarrier.
+pub fn study_from(
+    d: Device,
+    plan: &[u8],
+    from: usize,
+    before: usize,
+    reach: &mut [u16; 4096],
+    hot: &mut [u8; 256],
+    pil: &mut [u16; 128],
+    rec: &mut [u16; 128],
+    m: &mut [u16; 4096],
+) -> Verdict
+    requires { ⌜ Fits d × (badLength (now plan) ≡ false → Kept d (now plan) (length (now plan) / 8) from before (now reach) (now hot) (now pil) (now rec)) × (length (now m) ≡ 4096) ⌝ }
+    ensures { λ r. ⌜ (r ≡ verdict d (now (plan .entry))) × StudiedIf r d (now (plan .entry)) (now (m .exit)) × (length (now (m .exit)) ≡ 4096) ⌝ }
+{
+    match plan::walk_chain(d, plan, from, before, reach, hot, pil, rec) {
+        Chain::Bad(g, place) => Verdict::Refused(g, place),
+        Chain::Good(np, _) => study_tables(d, plan, reach, hot, pil, rec, np, m),
+    }
+}
+
 // Grounds 1 to 15 of any device that fits. Where the plan is accepted, m holds the mark of every subcarrier.
 pub fn study(d: Device, plan: &[u8], m: &mut [u16; 4096]) -> Verdict
     requires { ⌜ Fits d × (length (now m) ≡ 4096) ⌝ }
@@ -45,8 +70,5 @@ pub fn study(d: Device, plan: &[u8], m: &mut [u16; 4096]) -> Verdict
     let mut hot = [0u8; 256];
     let mut pil = [0u16; 128];
     let mut rec = [0u16; 128];
-    match plan::walk_chain(d, plan, &mut reach, &mut hot, &mut pil, &mut rec) {
-        Chain::Bad(g, place) => Verdict::Refused(g, place),
-        Chain::Good(np) => study_tables(d, plan, &reach, &hot, &pil, &rec, np, m),
-    }
+    study_from(d, plan, 0, 0, &mut reach, &mut hot, &mut pil, &mut rec, m)
 }

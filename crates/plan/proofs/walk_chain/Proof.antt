@@ -11,16 +11,16 @@ use Rattle.rules.specs.Grounds.{badLength, recordGrounds}
 use Rattle.records.specs.Read.{entryOf, foundAt}
 use Rattle.records.proofs.RecordLaws.{Sized, length-fine, fine-range}
 use Rattle.plan.specs.Walk.{Kept, Turned}
-use Rattle.plan.proofs.ChainLaws.{index-is, kept-start, stopped, found-some, turned}
+use Rattle.plan.proofs.ChainLaws.{index-is, stopped, found-some, turned}
 use Rattle.plan.proofs.NotedLaws.{bad-length, good-length, left-fine, noted}
 use Rattle.plan.proofs.walk_chain.Statement.{statement}
 use Rattle.plan.proofs.walk_chain.Tie as tie
 
 abbrev Inv-loop : tie.InvT-loop
-Inv-loop d plan reach₀ hot₀ pil₀ rec₀ records i₀ np₀ reach hot pil rec i np = Kept d plan records i np reach hot pil rec
+Inv-loop d plan from before reach₀ hot₀ pil₀ rec₀ records i₀ np₀ reach hot pil rec i np = Kept d plan records i np reach hot pil rec
 
 abbrev μ-loop : tie.MeasureT-loop
-μ-loop d plan reach₀ hot₀ pil₀ rec₀ records i₀ np₀ reach hot pil rec i np = records - i
+μ-loop d plan from before reach₀ hot₀ pil₀ rec₀ records i₀ np₀ reach hot pil rec i np = records - i
 
 -- the length is good
 short : (c : tie.Else1 Inv-loop μ-loop) → badLength (c .before .before .before .args .plan .now) ≡ false
@@ -47,9 +47,7 @@ returns : tie.Need-returns Inv-loop μ-loop
 returns c = (bad-length _ _ (sym (c .before .bad-length .ensures) ∙ c .if1 .taken), tt)
 
 loop-holds : tie.Need-loop-holds Inv-loop μ-loop
-loop-holds c =
-    let p = c .before .before .before .pre in
-    kept-start (omega (arith, sized c .some)) (p .1) (p .2) (p .3) (p .4) (p .5)
+loop-holds c = c .before .before .before .pre .1 (short c)
 
 record-at-requires : tie.Need-record-at-requires Inv-loop μ-loop
 record-at-requires c κs = let h = c .loop .inv .here in (omega (arith, sized (c .before) .whole), omega (arith, sized (c .before) .most))
@@ -57,8 +55,8 @@ record-at-requires c κs = let h = c .loop .inv .here in (omega (arith, sized (c
 record-ground-requires : tie.Need-record-ground-requires Inv-loop μ-loop
 record-ground-requires c κs = search needs
 
-cast-t15 : tie.Need-cast-t15 Inv-loop μ-loop
-cast-t15 c = omega (arith, c .before .before .before .loop .inv .here, sized (c .before .before .before .before) .most)
+cast-t17 : tie.Need-cast-t17 Inv-loop μ-loop
+cast-t17 c = omega (arith, c .before .before .before .loop .inv .here, sized (c .before .before .before .before) .most)
 
 returns-2 : tie.Need-returns-2 Inv-loop μ-loop
 returns-2 c =
@@ -72,9 +70,10 @@ take-record-requires c κs =
 
 returns-3 : tie.Need-returns-3 Inv-loop μ-loop
 returns-3 c =
-    let left = after (c .before .before) .last (c .if3 .taken) in
+    let taken = after (c .before .before) in
+    let left = taken .last (c .if3 .taken) in
     let good = short (c .before .before .before .before .before .before .before .before .before .before .before) in
-    (good-length _ _ good (left-fine _ left), noted _ left good)
+    (good-length _ _ good (left-fine _ left), (noted _ left good, taken .here (c .if3 .taken)))
 
 loop-less : tie.Need-loop-less Inv-loop μ-loop
 loop-less c =
@@ -95,7 +94,7 @@ walk-chain-spec =
     loop-holds
     record-at-requires
     record-ground-requires
-    cast-t15
+    cast-t17
     returns-2
     take-record-requires
     returns-3

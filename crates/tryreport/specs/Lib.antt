@@ -1,0 +1,2 @@
+pub mod TryLine
+pub mod Copied
