@@ -4,7 +4,7 @@ ghost use mathlib.Core.Path.{_≡_};
 ghost use lib.ListN.{length, take};
 ghost use lib.Seq.{sets};
 ghost use Rattle.chains.specs.Last.{lastIndex};
-ghost use Rattle.copies.specs.Copy.{copyMax, twoBytes, rangeRecord, copyWith};
+ghost use Rattle.copies.specs.Copy.{twoBytes, rangeRecord, copyWith};
 
 // The bytes of the longest copy: that of a plan of 4,096.
 pub const COPY_MAX: usize = 4104;
@@ -13,18 +13,18 @@ pub const COPY_MAX: usize = 4104;
 const RANGE: u16 = 512;
 
 // A two-byte number put at byte `at`.
-fn put(copy: &mut [u8; COPY_MAX], at: usize, n: u16)
-    requires { ⌜ (length (now copy) ≡ copyMax) × (at + 2 ≤ copyMax) ⌝ }
-    ensures { λ _. ⌜ (now (copy .exit) ≡ sets (now (copy .entry)) at (twoBytes n)) × (length (now (copy .exit)) ≡ copyMax) ⌝ }
+fn put(copy: &mut [u8], at: usize, n: u16)
+    requires { ⌜ at + 2 ≤ length (now copy) ⌝ }
+    ensures { λ _. ⌜ now (copy .exit) ≡ sets (now (copy .entry)) at (twoBytes n) ⌝ }
 {
     copy[at] = (n / 256) as u8;
     copy[at + 1] = (n % 256) as u8;
 }
 
 // The plan's bytes, at the start of the copy.
-fn copy_in(plan: &[u8], copy: &mut [u8; COPY_MAX])
-    requires { ⌜ (length (now copy) ≡ copyMax) × (length (now plan) + 8 ≤ copyMax) ⌝ }
-    ensures { λ _. ⌜ (now (copy .exit) ≡ sets (now (copy .entry)) 0 (now (plan .entry))) × (length (now (copy .exit)) ≡ copyMax) ⌝ }
+fn copy_in(plan: &[u8], copy: &mut [u8])
+    requires { ⌜ length (now plan) ≤ length (now copy) ⌝ }
+    ensures { λ _. ⌜ now (copy .exit) ≡ sets (now (copy .entry)) 0 (now (plan .entry)) ⌝ }
 {
     let mut i: usize = 0;
     while i < plan.len() {
@@ -34,9 +34,9 @@ fn copy_in(plan: &[u8], copy: &mut [u8; COPY_MAX])
 }
 
 // The new record put at byte `at`.
-fn put_range(copy: &mut [u8; COPY_MAX], at: usize, first: u16, last: u16)
-    requires { ⌜ (length (now copy) ≡ copyMax) × (at + 8 ≤ copyMax) ⌝ }
-    ensures { λ _. ⌜ (now (copy .exit) ≡ sets (now (copy .entry)) at (rangeRecord first last)) × (length (now (copy .exit)) ≡ copyMax) ⌝ }
+fn put_range(copy: &mut [u8], at: usize, first: u16, last: u16)
+    requires { ⌜ at + 8 ≤ length (now copy) ⌝ }
+    ensures { λ _. ⌜ now (copy .exit) ≡ sets (now (copy .entry)) at (rangeRecord first last) ⌝ }
 {
     put(copy, at, RANGE);
     put(copy, at + 2, 0);
@@ -44,10 +44,11 @@ fn put_range(copy: &mut [u8; COPY_MAX], at: usize, first: u16, last: u16)
     put(copy, at + 6, last);
 }
 
-// The copy of a plan that also excludes first to last; `end` is the index of the plan's last chain record, the answer the copy's length.
-pub fn extend(plan: &[u8], end: usize, first: u16, last: u16, copy: &mut [u8; COPY_MAX]) -> usize
-    requires { ⌜ (8 ≤ length (now plan)) × (length (now plan) + 8 ≤ copyMax) × (end ≡ lastIndex (now plan)) × (length (now copy) ≡ copyMax) ⌝ }
-    ensures { λ r. ⌜ (take r (now (copy .exit)) ≡ copyWith (now (plan .entry)) first last) × (r ≡ length (now (plan .entry)) + 8) × (length (now (copy .exit)) ≡ copyMax) ⌝ }
+// The copy of a plan that also excludes first to last, at the start of `copy`; `end` is the index of the plan's last chain record, the
+// answer the copy's length.
+pub fn extend(plan: &[u8], end: usize, first: u16, last: u16, copy: &mut [u8]) -> usize
+    requires { ⌜ (8 ≤ length (now plan)) × (length (now plan) ≤ 4096) × (end ≡ lastIndex (now plan)) × (length (now plan) + 8 ≤ length (now copy)) ⌝ }
+    ensures { λ r. ⌜ (take r (now (copy .exit)) ≡ copyWith (now (plan .entry)) first last) × (r ≡ length (now (plan .entry)) + 8) ⌝ }
 {
     let n = plan.len();
     copy_in(plan, copy);

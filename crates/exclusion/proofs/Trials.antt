@@ -7,7 +7,7 @@ use mathlib.Core.List.{List}
 use native.Mathlib.Omega.{arith}
 use native.Mathlib.Decide.{decLt}
 use lib.Dec.{ltb, leb}
-use lib.ListN.{length}
+use lib.ListN.{length, take}
 use borrow.Author.Tests.{le-ltb, lt-ltb, le-leb, ltb-true, ltb-false}
 use Rattle.counting.specs.Search.{when, pick}
 use Rattle.counting.proofs.Bools.{by-test, neither}
@@ -15,7 +15,7 @@ use Rattle.rules.specs.declared.Device.{Device}
 use Rattle.rules.specs.declared.Finding.{Finding}
 use Rattle.rules.specs.declared.Finding.the-variants.{Fine, Ground}
 use Rattle.rules.specs.declared.Verdict.{Verdict}
-use Rattle.rules.specs.declared.Verdict.the-variants.{Refused}
+use Rattle.rules.specs.declared.Verdict.the-variants.{Accepted, Refused}
 use Rattle.rules.specs.Plan.{planOf}
 use Rattle.rules.specs.Roles.{rankedCount}
 use Rattle.rules.specs.Grounds.{_else_, ground?, badNumbers, grounds1to5, grounds6to15, grounds1to15, answer, verdict}
@@ -23,6 +23,7 @@ use Rattle.copies.specs.Copy.{copyWith}
 use Rattle.copylaws.specs.Entries.{rangeEntry}
 use Rattle.copylaws.proofs.Copy.{copy-grounds, copy-fine}
 use Rattle.exclusion.specs.Trial.{trialVerdict, numberMax, tooLarge, wideTrial}
+use Rattle.exclusion.specs.Copied.{CopiedIf}
 
 second : (x z : Bool) → ((x || true || z) || false) ≡ true
 second true z = refl
@@ -77,6 +78,11 @@ module _ (d : Device) (s : List ℕ) (a b : ℕ) where
   unfolding badNumbers
   range-backward l =
       ap (λ (t : Bool). (leb (d .subcarriers) a || leb (d .subcarriers) b || t) || false) (lt-ltb b a l) ∙ third (leb (d .subcarriers) a) (leb (d .subcarriers) b)
+
+-- what a copy that has been made says of any verdict
+pub copied-if : (v : Verdict) (d : Device) (s : List ℕ) (a b n : ℕ) (bytes : List ℕ) → grounds1to5 d s ≡ Fine → take n bytes ≡ copyWith s a b → n ≤ length bytes → CopiedIf v n d s a b bytes
+copied-if (Accepted k) d s a b n bytes e c l = record { fine = e; copy = c; few = l }
+copied-if (Refused g place) d s a b n bytes e c l = tt
 
 -- ---- numbers of 32 bits
 

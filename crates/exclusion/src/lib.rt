@@ -1,9 +1,10 @@
 // What one more excluded range would do to a plan, before anybody touches it (document 02, Req 05): the verdict on a copy in which the last
 // chain record points at a new last record. The chain of the plan is read once: the tables that grounds 1 to 5 leave go on to the copy,
 // whose walk goes on at its new record. Nothing lent changes.
-ghost use Prim.Native.Nat.{ℕ, min};
+ghost use Prim.Native.Nat.{ℕ, min, _≤_};
 ghost use mathlib.Core.Path.{_≡_};
 ghost use mathlib.Core.List.{List};
+ghost use lib.ListN.{length};
 ghost use Rattle.rules.specs.declared.Device.{Device};
 ghost use Rattle.rules.specs.declared.Finding.the-variants.{Fine};
 ghost use Rattle.rules.specs.Device.{khz50};
@@ -11,12 +12,20 @@ ghost use Rattle.rules.specs.Fits.{Fits};
 ghost use Rattle.rules.specs.Grounds.{grounds1to5};
 ghost use Rattle.chains.specs.Last.{lastIndex};
 ghost use Rattle.plan.specs.Noted.{Noted};
+ghost use Rattle.copies.specs.Copy.{copyMax};
 ghost use Rattle.exclusion.specs.Trial.{trialVerdict, numberMax, wideTrial};
+ghost use Rattle.exclusion.specs.Copied.{CopiedIf};
 ghost use Rattle.exclusion.specs.Claims.{TrialClaims};
 use copies::COPY_MAX;
 use plan::Chain;
 use rules::Device;
 use rules::Verdict;
+
+// The verdict of a trial, and the length of the copy.
+pub struct Trial {
+    pub verdict: Verdict,
+    pub length: usize,
+}
 
 // The verdict on the copy of a plan whose chain has been walked: the walk goes on at the copy's new record.
 fn try_copy(
@@ -30,16 +39,16 @@ fn try_copy(
     hot: &mut [u8; 256],
     pil: &mut [u16; 128],
     rec: &mut [u16; 128],
-) -> Verdict
-    requires { ⌜ Fits d × (grounds1to5 d (now plan) ≡ Fine) × Noted d (now plan) np (now reach) (now hot) (now pil) (now rec) × (end ≡ lastIndex (now plan)) ⌝ }
-    ensures { λ r. ⌜ r ≡ trialVerdict d (now (plan .entry)) first last ⌝ }
+    copy: &mut [u8],
+) -> Trial
+    requires { ⌜ Fits d × (grounds1to5 d (now plan) ≡ Fine) × Noted d (now plan) np (now reach) (now hot) (now pil) (now rec) × (end ≡ lastIndex (now plan)) × (copyMax ≤ length (now copy)) ⌝ }
+    ensures { λ r. ⌜ (r .verdict ≡ trialVerdict d (now (plan .entry)) first last) × CopiedIf (r .verdict) (r .length) d (now (plan .entry)) first last (now (copy .exit)) ⌝ }
 {
-    let mut copy = [0u8; COPY_MAX];
     let mut m = [0u16; 4096];
-    let n = copies::extend(plan, end, first, last, &mut copy);
-    verdicts::study_from(
+    let length = copies::extend(plan, end, first, last, copy);
+    let verdict = verdicts::study_from(
         d,
-        &copy[..n],
+        &copy[..length],
         plan.len() / 8,
         np,
         reach,
@@ -47,20 +56,24 @@ fn try_copy(
         pil,
         rec,
         &mut m,
-    )
+    );
+    Trial { verdict, length }
 }
 
-// The verdict of a trial, for any device that fits.
-fn try_range(d: Device, plan: &[u8], first: u16, last: u16) -> Verdict
-    requires { ⌜ Fits d ⌝ }
-    ensures { λ r. ⌜ r ≡ trialVerdict d (now (plan .entry)) first last ⌝ }
+// A trial, for any device that fits. The copy of a plan that no ground of 1 to 5 refuses stands at the start of `copy` then.
+pub fn try_range(d: Device, plan: &[u8], first: u16, last: u16, copy: &mut [u8]) -> Trial
+    requires { ⌜ Fits d × (copyMax ≤ length (now copy)) ⌝ }
+    ensures { λ r. ⌜ (r .verdict ≡ trialVerdict d (now (plan .entry)) first last) × CopiedIf (r .verdict) (r .length) d (now (plan .entry)) first last (now (copy .exit)) ⌝ }
 {
     let mut reach = [0u16; 4096];
     let mut hot = [0u8; 256];
     let mut pil = [0u16; 128];
     let mut rec = [0u16; 128];
     match plan::walk_chain(d, plan, 0, 0, &mut reach, &mut hot, &mut pil, &mut rec) {
-        Chain::Bad(g, place) => Verdict::Refused(g, place),
+        Chain::Bad(g, place) => Trial {
+            verdict: Verdict::Refused(g, place),
+            length: 0,
+        },
         Chain::Good(np, end) => try_copy(
             d,
             plan,
@@ -72,6 +85,7 @@ fn try_range(d: Device, plan: &[u8], first: u16, last: u16) -> Verdict
             &mut hot,
             &mut pil,
             &mut rec,
+            copy,
         ),
     }
 }
@@ -81,7 +95,9 @@ fn try_range(d: Device, plan: &[u8], first: u16, last: u16) -> Verdict
 pub fn try_exclusion(plan: &[u8], first: u16, last: u16) -> Verdict
     ensures { λ r. ⌜ r ≡ trialVerdict khz50 (now (plan .entry)) first last ⌝ }
 {
-    try_range(rules::khz50_device(), plan, first, last)
+    let mut copy = [0u8; COPY_MAX];
+    let trial = try_range(rules::khz50_device(), plan, first, last, &mut copy);
+    trial.verdict
 }
 
 // A number as a record can hold it: the largest one for any above it.

@@ -1,2 +1,1 @@
 pub mod TryLine
-pub mod Copied

@@ -9,24 +9,23 @@ use native.Mathlib.Omega.{arith}
 use lib.ListN.{length, take, set, getD, length-set}
 use lib.Seq.{sets, take-all}
 use Rattle.counting.proofs.Lists.{sets-snoc}
-use Rattle.copies.specs.Copy.{copyMax}
 use Rattle.copies.proofs.copy_in.Statement.{statement}
 use Rattle.copies.proofs.copy_in.Tie as tie
 
 abbrev Inv-loop : tie.InvT-loop
-Inv-loop plan copy₀ i₀ copy i = (i ≤ length plan) × (length copy ≡ copyMax) × (copy ≡ sets copy₀ 0 (take i plan))
+Inv-loop plan copy₀ i₀ copy i = (i ≤ length plan) × (length copy ≡ length copy₀) × (copy ≡ sets copy₀ 0 (take i plan))
 
 abbrev μ-loop : tie.MeasureT-loop
 μ-loop plan copy₀ i₀ copy i = length plan - i
 
 loop-holds : tie.Need-loop-holds Inv-loop μ-loop
-loop-holds c = (omega arith, c .pre .0, refl)
+loop-holds c = (omega arith, refl, refl)
 
 shared-slice-read-copy : tie.Need-shared-slice-read-copy Inv-loop μ-loop
 shared-slice-read-copy c = search needs
 
-element-write-copy : tie.Need-element-write-copy Inv-loop μ-loop
-element-write-copy c = search needs
+slice-write-copy : tie.Need-slice-write-copy Inv-loop μ-loop
+slice-write-copy c = search needs
 
 add-i : tie.Need-add-i Inv-loop μ-loop
 add-i c = search needs
@@ -42,11 +41,14 @@ loop-again c =
     rw (zero-add (l .i), ← add-one) at (sets-snoc (g .copy .now) 0 (g .plan .now) (l .i) (omega arith)) in
     (omega arith, length-set (l .copy) (l .i) (getD (g .plan .now) (l .i) 0) ∙ l .inv .1, ap (λ (x : List ℕ). set x (l .i) (getD (g .plan .now) (l .i) 0)) (l .inv .2) ∙ more)
 
+same-length : tie.Need-same-length Inv-loop μ-loop
+same-length c = search needs
+
 returns : tie.Need-returns Inv-loop μ-loop
 returns c =
     let g = c .before .before .args in
     let l = c .before .loop in
-    (l .inv .2 ∙ ap (sets (g .copy .now) 0) (take-all (l .i) (g .plan .now) (omega arith)), l .inv .1)
+    l .inv .2 ∙ ap (sets (g .copy .now) 0) (take-all (l .i) (g .plan .now) (omega arith))
 
 pub copy-in-spec : {M : Type 1} → statement M
 copy-in-spec =
@@ -56,8 +58,9 @@ copy-in-spec =
     μ-loop
     loop-holds
     shared-slice-read-copy
-    element-write-copy
+    slice-write-copy
     add-i
     loop-less
     loop-again
+    same-length
     returns)

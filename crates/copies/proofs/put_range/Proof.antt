@@ -25,10 +25,14 @@ add-put-3 c = search needs
 put-requires-4 : tie.Need-put-requires-4
 put-requires-4 c κs = search needs
 
+same-length : tie.Need-same-length
+same-length c = search needs
+
 returns : tie.Need-returns
 returns c =
-    let b = c .before .before in
-    (range-stored _ _ _ _ _ _ _ _ (b .before .before .before .before .put .ensures .0) (b .before .before .put2 .ensures .0) (b .put3 .ensures .0) (c .put4 .ensures .0), c .put4 .ensures .1)
+    let third = c .before .before .before .before .before .before in
+    let second = third .before .before .before .before in
+    range-stored _ _ _ _ _ _ _ _ (second .before .before .before .before .put .ensures) (second .put2 .ensures) (third .put3 .ensures) (c .before .before .put4 .ensures)
 
 pub put-range-spec : {M : Type 1} → statement M
 put-range-spec =
@@ -41,4 +45,5 @@ put-range-spec =
     put-requires-3
     add-put-3
     put-requires-4
+    same-length
     returns)

@@ -13,8 +13,8 @@ use Rattle.exclusion.proofs.try_range.Tie as tie
 
 walk-chain-requires : tie.Need-walk-chain-requires
 walk-chain-requires c κs =
-    let g = c .before .before .before .before .before in
-    (g .pre, kept-start (table-zero 4096 (g .args .d .subcarriers) (g .pre .few)) (flags-zero 4096 (replicate 256 0) (length-replicate {A = ℕ} 256 0)) (hit-zero 4096) (length-replicate {A = ℕ} 128 0) (length-replicate {A = ℕ} 128 0))
+    let g = c .before .before .before .before .before .before in
+    (g .pre .0, kept-start (table-zero 4096 (g .args .d .subcarriers) (g .pre .0 .few)) (flags-zero 4096 (replicate 256 0) (length-replicate {A = ℕ} 256 0)) (hit-zero 4096) (length-replicate {A = ℕ} 128 0) (length-replicate {A = ℕ} 128 0))
 
 enum-known-g : tie.Need-enum-known-g
 enum-known-g c = search needs
@@ -24,17 +24,20 @@ enum-known-np c = search needs
 
 try-copy-requires : tie.Need-try-copy-requires
 try-copy-requires c κs =
-    let g = c .before .before .before .before .before .before .before .before .before .before .before .before .before in
-    let w = c .before .before .before .before .before .before .before .walk-chain in
-    let told = c .before .before .before .before .before .np .given .1 in
+    let g = c .before .before .before .before .before .before .before .before .before .before .before .before .before .before .before in
+    let w = c .before .before .before .before .before .before .before .before .walk-chain in
+    let told = c .before .before .before .before .before .before .np .given .1 in
     let tables = w .last .1 .1 .1 .1 in
     let filled = subst (λ (r : Chain). Filled r (g .args .d) (g .args .plan .now) (tables .0) (tables .1 .0) (tables .1 .1 .0) (tables .1 .1 .1 .0)) told (w .ensures .1) in
-    (g .pre, sym (w .ensures .0) ∙ ap findingOf told, filled .0, filled .1)
+    (g .pre .0, sym (w .ensures .0) ∙ ap findingOf told, filled .0, filled .1, g .pre .1)
 
 returns : tie.Need-returns
 returns c =
-    let g = c .before .before .before .before .before .before .before .before .before in
-    sym (trial-refused (g .args .d) (g .args .plan .now) (g .args .first) (g .args .last) _ _ (sym (c .before .before .before .walk-chain .ensures .0) ∙ ap findingOf (c .before .g .given .1)))
+    let g = c .before .before .before .before .before .before .before .before .before .before in
+    (sym (trial-refused (g .args .d) (g .args .plan .now) (g .args .first) (g .args .last) _ _ (sym (c .before .before .before .walk-chain .ensures .0) ∙ ap findingOf (c .before .g .given .1))), tt)
+
+same-length : tie.Need-same-length
+same-length c = search needs
 
 returns-2 : tie.Need-returns-2
 returns-2 c = search needs
@@ -42,4 +45,4 @@ returns-2 c = search needs
 pub try-range-spec : {M : Type 1} → statement M
 try-range-spec =
     tie.close
-    (tie.spec walk-chain-requires enum-known-g enum-known-np try-copy-requires returns returns-2)
+    (tie.spec walk-chain-requires enum-known-g enum-known-np try-copy-requires returns same-length returns-2)
