@@ -1,12 +1,14 @@
 #!/usr/bin/env python3
-"""Holds a plancheck program against the model.
+"""Holds a plancheck program, or a trycheck program, against the model.
 
     python3 tests/compare.py PROGRAM [COUNT] [SEED]
+    python3 tests/compare.py --ranges PROGRAM [COUNT] [SEED]
 
 Makes COUNT plans (3000 if not given), sound ones near the limits and hostile
 ones, gives each to PROGRAM on standard input and compares the whole of its
-standard output with the model's line.  Prints the differences, a histogram of
-the lines and the number compared, and exits 1 on any difference.
+standard output with the model's line.  With --ranges the program is given a
+range by chance too, as two words.  Prints the differences, a histogram of the
+lines and the number compared, and exits 1 on any difference.
 """
 
 import random
@@ -23,6 +25,7 @@ from plans import entries, outside, plan, record, singles
 
 SHOWN = 20          # differences printed in full
 TIMEOUT = 60        # seconds for one plan
+RECORD_MAX = 65535  # the largest number that a record can hold
 
 
 # --- plans by chance -------------------------------------------------------
@@ -319,36 +322,57 @@ def inputs(count, seed):
         yield maker.__name__, maker(rng)
 
 
-def answer(program, data):
+def some_range(rng, data):
+    """A range beside one of the plan, the PLC or a limit, or anywhere."""
+    whole = len(data) // 8 * 8
+    words = [int.from_bytes(data[i:i + 2], 'big') for i in range(0, whole, 2)] or [0] * 4
+    first = rng.choice((rng.choice(words[2::4]) - 1, rng.choice(words[3::4]) + 1, words[2] - 57,
+                        words[2] + 63, 0, 147, 3949, rng.randrange(4096), rng.randrange(4096)))
+    first = min(max(first, 0), RECORD_MAX)
+    return first, first + rng.choice((0, 0, 0, 1, 3, 4, 18, 19, 40, 400))
+
+
+def trials(count, seed):
+    """(where from, bytes, first, last) of every plan and range to be compared."""
+    rng = random.Random(seed)
+    for source, data in inputs(count, seed):
+        first, last = some_range(rng, data[:4104])
+        yield source, data, first, min(last, RECORD_MAX)
+
+
+def answer(program, data, *words):
     """What the program prints, and its status (negative if it was ended by a
     signal or did not end)."""
     try:
-        run = subprocess.run([program], input=data, stdout=subprocess.PIPE, timeout=TIMEOUT)
+        run = subprocess.run([program, *map(str, words)], input=data, stdout=subprocess.PIPE,
+                             timeout=TIMEOUT)
     except subprocess.TimeoutExpired:
         return b'', -1
     return run.stdout, run.returncode
 
 
 def main():
-    if not 2 <= len(sys.argv) <= 4:
+    given = [word for word in sys.argv[1:] if word != '--ranges']
+    if not 1 <= len(given) <= 3:
         sys.exit(__doc__)
-    program = sys.argv[1]
+    program = given[0]
     if Path(program).exists():
         program = str(Path(program).resolve())
-    count = int(sys.argv[2]) if len(sys.argv) > 2 else 3000
-    seed = int(sys.argv[3]) if len(sys.argv) > 3 else 1
+    count = int(given[1]) if len(given) > 1 else 3000
+    seed = int(given[2]) if len(given) > 2 else 1
     counts, compared, differences = Counter(), 0, 0
-    for source, data in inputs(count, seed):
-        want = model.line(data)
+    made = trials(count, seed) if '--ranges' in sys.argv[1:] else inputs(count, seed)
+    for source, data, *words in made:
+        want = model.trial_line(data, *words) if words else model.line(data)
         counts[want.split()[1] if want.startswith('refused') else 'ok'] += 1
-        printed, status = answer(program, data)
+        printed, status = answer(program, data, *words)
         compared += 1
         if printed != (want + '\n').encode() or status < 0:
             differences += 1
             if differences <= SHOWN:
-                print('differs (%s, %d bytes): model %r, program %r, status %d\n  %s'
-                      % (source, len(data), want, printed[:80], status,
-                         data[:4096].hex()))
+                print('differs (%s, %d bytes%s): model %r, program %r, status %d\n  %s'
+                      % (source, len(data), ', %d to %d' % tuple(words) if words else '', want,
+                         printed[:80], status, data[:4096].hex()))
     for key in ['ok'] + [str(n) for n in range(1, 16)]:
         print('  %-3s %5d' % (key, counts[key]))
     print('%d compared, %d differences' % (compared, differences))

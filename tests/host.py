@@ -45,6 +45,7 @@ import compare
 import loss
 import plans
 import points
+from compare import RECORD_MAX
 from emitter import emitter_length
 from receiver import Receiver, receiver_length
 from stored import ROOT
@@ -52,7 +53,6 @@ from stored import ROOT
 ANSWER = 16
 SYMBOL = 4096
 TOP = 2 ** 32 - 1
-RECORD_MAX = 65535                          # a number of a record has two bytes
 ODD_NUMBERS = (0x12345678, 0x9ABCDEF0)      # no byte as another
 BLOCK = 256
 PLAN, SENDING, LISTENING, GIVEN, LINE, HANDED, SAID, LOADS, SIGNS, NUMBERS = range(10)
@@ -736,15 +736,6 @@ def without_last(model, plan):
     return None
 
 
-def some_range(rng, plan):
-    """A range beside one of the plan, the PLC or a limit, or anywhere."""
-    words = to_cells(plan[:len(plan) // 8 * 8]) or [0] * 4
-    first = rng.choice((rng.choice(words[2::4]) - 1, rng.choice(words[3::4]) + 1, words[2] - 57, words[2] + 63, 0, 147, 3949,
-                        rng.randrange(4096), rng.randrange(4096)))
-    first = min(max(first, 0), RECORD_MAX)
-    return first, first + rng.choice((0, 0, 0, 1, 3, 4, 18, 19, 40, 400))
-
-
 def trials(cases, ranges, step, some):
     """These ranges on every plan of plans/; on the named cases of plans.py, in steps of `step`, a range by chance, and the last range
     of each on the plan without it: its line was worked out by hand; ranges by chance on `some` plans by chance."""
@@ -755,7 +746,7 @@ def trials(cases, ranges, step, some):
             attempt(cases, path.read_bytes(), first, last)
     for name, plan, want in plans.all_cases()[::step]:
         cases.name('tried on ' + name)
-        attempt(cases, plan, *some_range(rng, plan))
+        attempt(cases, plan, *compare.some_range(rng, plan))
         shorter = without_last(cases.model, plan)
         if shorter is not None:
             words = [int(word) for word in want.split()[1:]]
@@ -764,7 +755,7 @@ def trials(cases, ranges, step, some):
         cases.name('tried on a plan by chance')
         plan = compare.good(rng)
         for _ in range(3):
-            attempt(cases, plan, *some_range(rng, plan))
+            attempt(cases, plan, *compare.some_range(rng, plan))
 
 
 def limits():

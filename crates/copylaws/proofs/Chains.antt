@@ -12,7 +12,7 @@ use Rattle.counting.proofs.Bools.{by-test, and-false}
 use Rattle.rules.specs.declared.Device.{Device}
 use Rattle.rules.specs.declared.Finding.{Finding}
 use Rattle.rules.specs.declared.Finding.the-variants.{Fine, Ground}
-use Rattle.rules.specs.Plan.{Entry, entry, leads, chainFrom, chain, isPilot}
+use Rattle.rules.specs.Plan.{Entry, entry, leads, chainFrom, isPilot}
 use Rattle.rules.specs.Grounds.{_else_, ground?, badForm, badNext, badNumbers, pilotsMax, recordGrounds, chainGrounds}
 use Rattle.chains.proofs.Steps.{chain-ends, chain-on, leads-on, leads-up, leads-low}
 use Rattle.records.proofs.RecordLaws.{not-fine, both-fine}

@@ -2,23 +2,22 @@
 use Prim.Native.Nat.{ℕ, suc, _+_, _*_, _/_, _%_, _≤_, _<_}
 use mathlib.Core.Path.{_≡_, refl, sym, ap, ap₂, _∙_, subst}
 use mathlib.Core.Logic.{by-cases}
-use mathlib.Core.Bool.{Bool, true, false, not, _&&_, _||_}
+use mathlib.Core.Bool.{Bool, false, not, _||_}
 use mathlib.Core.List.{List, [], _∷_, _++_, map, append-nil}
 use native.Mathlib.Omega.{arith}
 use native.Mathlib.Decide.{ℕ-discrete}
-use lib.Dec.{leb, ltb, eqb}
+use lib.Dec.{ltb, eqb}
 use lib.ListN.{length}
-use borrow.Author.Tests.{le-ltb, lt-ltb, lt-leb, eq-eqb}
+use borrow.Author.Tests.{le-ltb, lt-leb, eq-eqb}
 use Rattle.counting.specs.Search.{when}
 use Rattle.counting.proofs.Bools.{or-false}
 use Rattle.rules.specs.declared.Device.{Device}
 use Rattle.rules.specs.declared.Finding.{Finding}
-use Rattle.rules.specs.declared.Finding.the-variants.{Fine, Ground}
-use Rattle.rules.specs.declared.Verdict.the-variants.{Refused}
+use Rattle.rules.specs.declared.Finding.the-variants.{Fine}
 use Rattle.rules.specs.Plan.{Entry, entry, chain, chainFrom, only, isRange, isPilot, planOf}
 use Rattle.rules.specs.Bands.{any, covers, excluded}
-use Rattle.rules.specs.Roles.{names, rankedCount}
-use Rattle.rules.specs.Grounds.{_else_, ground?, badLength, badNumbers, chainGrounds, grounds1to5, grounds6to15, grounds1to15, answer, verdict}
+use Rattle.rules.specs.Roles.{names}
+use Rattle.rules.specs.Grounds.{_else_, ground?, badLength, badNumbers, chainGrounds, grounds1to5}
 use Rattle.records.proofs.RecordLaws.{both-fine, Sized, length-fine}
 use Rattle.facts.proofs.Accepted.{when-fine}
 use Rattle.chains.specs.Last.{lastIndex}

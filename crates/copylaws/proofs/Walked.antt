@@ -1,19 +1,18 @@
 -- The walk along the chain of the copy goes on at its new record, with the tables that the walk along the plan's chain has left: what is
 -- before that record is the plan's. Assumes nothing.
-use Prim.Native.Nat.{ℕ, suc, _+_, _/_, _<_}
+use Prim.Native.Nat.{ℕ, suc, _/_, _<_}
 use mathlib.Core.Path.{_≡_, refl, sym, ap, ap₂, _∙_, subst}
-use mathlib.Core.Bool.{Bool, false, _||_}
-use mathlib.Core.List.{List, [], _∷_, _++_, map}
+use mathlib.Core.Bool.{Bool, _||_}
+use mathlib.Core.List.{List, [], _∷_, map}
 use native.Mathlib.Omega.{arith}
 use lib.ListN.{length, take}
 use Rattle.counting.proofs.Bools.{or-false}
 use Rattle.counting.proofs.Lists.{append-nil}
 use Rattle.rules.specs.declared.Device.{Device}
 use Rattle.rules.specs.declared.Finding.the-variants.{Fine}
-use Rattle.rules.specs.Plan.{Entry, leads, chain, chainFrom, only, isRange, isPilot, planOf}
-use Rattle.rules.specs.Bands.{any, covers, excluded}
-use Rattle.rules.specs.Grounds.{chainGrounds, grounds1to5}
-use Rattle.ranges.specs.Reach.{hit}
+use Rattle.rules.specs.Plan.{Entry, leads, chain, chainFrom, only, planOf}
+use Rattle.rules.specs.Bands.{any, excluded}
+use Rattle.rules.specs.Grounds.{grounds1to5}
 use Rattle.chains.specs.Last.{lastOf, lastIndex}
 use Rattle.chains.proofs.Steps.{chain-ends, leads-low}
 use Rattle.chains.proofs.LastLaws.{last-inside, last-append, last-map}

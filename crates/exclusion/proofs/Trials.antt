@@ -9,7 +9,7 @@ use native.Mathlib.Decide.{decLt}
 use lib.Dec.{ltb, leb}
 use lib.ListN.{length, take}
 use borrow.Author.Tests.{le-ltb, lt-ltb, le-leb, ltb-true, ltb-false}
-use Rattle.counting.specs.Search.{when, pick}
+use Rattle.counting.specs.Search.{when}
 use Rattle.counting.proofs.Bools.{by-test, neither}
 use Rattle.rules.specs.declared.Device.{Device}
 use Rattle.rules.specs.declared.Finding.{Finding}

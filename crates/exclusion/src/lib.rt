@@ -1,6 +1,7 @@
 // What one more excluded range would do to a plan, before anybody touches it (document 02, Req 05): the verdict on a copy in which the last
 // chain record points at a new last record. The chain of the plan is read once: the tables that grounds 1 to 5 leave go on to the copy,
-// whose walk goes on at its new record. Nothing lent changes.
+// whose walk goes on at its new record. The entries `try_exclusion` and `try_numbers` change nothing and ask nothing of their caller;
+// `try_range` is for the crates above that want the copy too.
 ghost use Prim.Native.Nat.{ℕ, min, _≤_};
 ghost use mathlib.Core.Path.{_≡_};
 ghost use mathlib.Core.List.{List};

@@ -1,6 +1,6 @@
 -- `tryreport::try_line` meets its contract: the line of a refusal, or of the copy. Assumes nothing.
 use borrow.Author.Needs.{needs}
-use mathlib.Core.Path.{_≡_, sym, ap, _∙_, subst}
+use mathlib.Core.Path.{sym, ap, _∙_, subst}
 use native.Mathlib.Omega.{arith}
 use lib.Seq.{length-take-le}
 use Rattle.rules.specs.declared.Verdict.{Verdict}
