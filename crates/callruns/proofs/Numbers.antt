@@ -31,7 +31,7 @@ use Rattle.rules.specs.Steps.{Emitter, Send, Sending, Starting, starts, refused
 use Rattle.rules.specs.Receive as receive
 use Rattle.rules.specs.Receive.{Receiver, Arrival, Receiving, Listening, listens, turnedAway, shortBuffer, wrongCell, receiverGround16, receiverGround17, ground20, receiveGrounds, received, frameReceive, frameListen, hearStep, listenStep}
 use Rattle.copies.specs.Copy.{copyWith}
-use Rattle.exclusion.specs.Trial.{trialVerdict, tooLarge, wideTrial}
+use Rattle.exclusion.specs.Trial.{trialVerdict, tooLarge, trialOfNumbers}
 use Rattle.answers.specs.Answer.{toldVerdict, toldRole, toldCount, toldStart, toldListen, toldSend, toldReceive}
 use Rattle.runs.specs.Run.{isStarted, isListening, isSent, isReceived}
 use Rattle.callruns.specs.Host.{isAccepted, isRole, isCount}
@@ -140,8 +140,8 @@ unfolding verdict
 verdict-zero d s = answer-zero (grounds1to15 d s) (rankedCount d (planOf s)) (plan-numbered d s)
 
 module _ (d : Device) (s : List ℕ) where
-  pub trial-zero : (first last : ℕ) → eqb (toldVerdict (wideTrial d s first last) .number) 0 ≡ isAccepted (wideTrial d s first last)
-  unfolding wideTrial trialVerdict
+  pub trial-zero : (first last : ℕ) → eqb (toldVerdict (trialOfNumbers d s first last) .number) 0 ≡ isAccepted (trialOfNumbers d s first last)
+  unfolding trialOfNumbers trialVerdict
   trial-zero a b =
       by-test (tooLarge a b)
       (λ t. rw t (answer-zero (grounds1to5 d s else ground? 1 (when (ltb 4096 (length s + 8)) 0) else Ground 4 (length s / 8)) 0

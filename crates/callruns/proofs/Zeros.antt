@@ -20,7 +20,7 @@ use Rattle.rules.specs.Receive.{receiveStep}
 use Rattle.bytecells.specs.Octets.{cellsOf, odd}
 use Rattle.bytecells.specs.ByteSteps.{startBytes, listenBytes, emitBytes, flushBytes, receiveBytes}
 use Rattle.bytemodulate.specs.ByteSymbols.{modulateBytes}
-use Rattle.exclusion.specs.Trial.{wideTrial}
+use Rattle.exclusion.specs.Trial.{trialOfNumbers}
 use Rattle.answers.specs.declared.Told.{Told}
 use Rattle.answers.specs.Answer.{short, written, toldVerdict, toldRole, toldCount, toldStart, toldListen, toldSend, toldReceive}
 use Rattle.runs.specs.Run.{isStarted, isListening, isSent, isReceived}
@@ -72,7 +72,7 @@ module _ (d : Device) (s : List ℕ) where
   unfolding judgeCall tryCall roleCall countCall startCall listenCall emitCall flushCall receiveCall modulateCall
   zero-is-accepted = record {
     judged = λ a. told-zero a (toldVerdict (verdict d s)) (isAccepted (verdict d s)) (verdict-zero d s);
-    tried = λ first last a. told-zero a (toldVerdict (wideTrial d s first last)) (isAccepted (wideTrial d s first last)) (trial-zero d s first last);
+    tried = λ first last a. told-zero a (toldVerdict (trialOfNumbers d s first last)) (isAccepted (trialOfNumbers d s first last)) (trial-zero d s first last);
     role = λ k j a. told-zero a (toldRole (roleAnswer d s k j)) (isRole (roleAnswer d s k j)) (role-zero d s k j);
     counted = λ j a. told-zero a (toldCount (dataCountAnswer d s j)) (isCount (dataCountAnswer d s j)) (count-zero d s j);
     started = λ j store a.

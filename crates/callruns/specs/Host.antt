@@ -26,7 +26,7 @@ use Rattle.bytecells.specs.ByteSteps.{startBytes, listenBytes, emitBytes, flush
 use Rattle.bytemodulate.specs.ByteSymbols.{modulateBytes}
 use Rattle.answers.specs.Answer.{short}
 use Rattle.runs.specs.Run.{isStarted, isListening, isSent, isReceived}
-use Rattle.exclusion.specs.Trial.{wideTrial}
+use Rattle.exclusion.specs.Trial.{trialOfNumbers}
 use Rattle.headend.specs.Calls.{judgeCall, tryCall, roleCall, countCall, startCall, listenCall, emitCall, flushCall, receiveCall, modulateCall}
 
 -- no ground refuses
@@ -62,7 +62,7 @@ valueIn a = numberIn a 12
 -- A call returns 0 exactly if nothing refuses: the answer buffer a is long enough, and the entry beneath the call does not refuse.
 pub record ZeroIsAccepted (d : Device) (s : List ℕ) : Type 0 where
   pub judged : (a : List ℕ) → (judgeCall d s a .number ≡ 0) ↔ ((short a ≡ false) × (isAccepted (verdict d s) ≡ true))
-  pub tried : (first last : ℕ) (a : List ℕ) → (tryCall d s first last a .number ≡ 0) ↔ ((short a ≡ false) × (isAccepted (wideTrial d s first last) ≡ true))
+  pub tried : (first last : ℕ) (a : List ℕ) → (tryCall d s first last a .number ≡ 0) ↔ ((short a ≡ false) × (isAccepted (trialOfNumbers d s first last) ≡ true))
   pub role : (k j : ℕ) (a : List ℕ) → (roleCall d s k j a .number ≡ 0) ↔ ((short a ≡ false) × (isRole (roleAnswer d s k j) ≡ true))
   pub counted : (j : ℕ) (a : List ℕ) → (countCall d s j a .number ≡ 0) ↔ ((short a ≡ false) × (isCount (dataCountAnswer d s j) ≡ true))
   pub started : (j : ℕ) (store a : List ℕ) → (startCall d s j store a .said .number ≡ 0) ↔ ((short a ≡ false) × (isStarted (startBytes d s j store .answer) ≡ true))

@@ -22,7 +22,7 @@ use Rattle.rules.specs.Grounds.{_else_, ground?, badNumbers, grounds1to5, groun
 use Rattle.copies.specs.Copy.{copyWith}
 use Rattle.copylaws.specs.Entries.{rangeEntry}
 use Rattle.copylaws.proofs.Copy.{copy-grounds, copy-fine}
-use Rattle.exclusion.specs.Trial.{trialVerdict, numberMax, tooLarge, wideTrial}
+use Rattle.exclusion.specs.Trial.{trialVerdict, numberMax, tooLarge, trialOfNumbers}
 use Rattle.exclusion.specs.Copied.{CopiedIf}
 
 second : (x z : Bool) → ((x || true || z) || false) ≡ true
@@ -108,8 +108,8 @@ module _ (d : Device) (s : List ℕ) (few : d .subcarriers ≤ numberMax) (a b :
       (λ l. rw l (trial-full d s _ _ e (ltb-true 4096 (length s + 8) l)))
       (λ l. rw l (trial-range d s _ _ e (ltb-false 4096 (length s + 8) l) (held-range t)))
 
-  pub held-trial : trialVerdict d s (min a numberMax) (min b numberMax) ≡ wideTrial d s a b
-  unfolding wideTrial tooLarge
+  pub held-trial : trialVerdict d s (min a numberMax) (min b numberMax) ≡ trialOfNumbers d s a b
+  unfolding trialOfNumbers tooLarge
   held-trial =
       by-test (tooLarge a b)
       (λ t. rw t (by-finding (grounds1to5 d s) refl t))

@@ -26,8 +26,8 @@ tooLarge first last = ltb numberMax first || ltb numberMax last
 
 -- Numbers of 32 bits, as a C host gives them: with one that no record can hold there is no copy, and the answer is what a copy with too
 -- large a number would get: the plan's refusal by 1 to 5, else 1 where the copy is too long, else 4 at the new record.
-unfoldable pub wideTrial : Device → List ℕ → ℕ → ℕ → Verdict
-wideTrial d s first last =
+unfoldable pub trialOfNumbers : Device → List ℕ → ℕ → ℕ → Verdict
+trialOfNumbers d s first last =
     pick
     (tooLarge first last)
     (answer (grounds1to5 d s else ground? 1 (when (ltb 4096 (length s + 8)) 0) else Ground 4 (length s / 8)) 0)

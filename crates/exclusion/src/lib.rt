@@ -14,7 +14,7 @@ ghost use Rattle.rules.specs.Grounds.{grounds1to5};
 ghost use Rattle.chains.specs.Last.{lastIndex};
 ghost use Rattle.plan.specs.Noted.{Noted};
 ghost use Rattle.copies.specs.Copy.{copyMax};
-ghost use Rattle.exclusion.specs.Trial.{trialVerdict, numberMax, wideTrial};
+ghost use Rattle.exclusion.specs.Trial.{trialVerdict, numberMax, trialOfNumbers};
 ghost use Rattle.exclusion.specs.Copied.{CopiedIf};
 ghost use Rattle.exclusion.specs.Claims.{TrialClaims};
 use copies::COPY_MAX;
@@ -113,7 +113,7 @@ fn held(x: u32) -> u16
 
 // The same for numbers of 32 bits: with one that no record can hold, ground 4 at the new record.
 pub fn try_numbers(plan: &[u8], first: u32, last: u32) -> Verdict
-    ensures { λ r. ⌜ r ≡ wideTrial khz50 (now (plan .entry)) first last ⌝ }
+    ensures { λ r. ⌜ r ≡ trialOfNumbers khz50 (now (plan .entry)) first last ⌝ }
 {
     try_exclusion(plan, held(first), held(last))
 }

@@ -9,7 +9,7 @@ use Rattle.rules.specs.Grounds.{verdict}
 use Rattle.rules.specs.Answers.{roleAnswer}
 use Rattle.rules.specs.Steps.{Starting, Sending, dataCountAnswer}
 use Rattle.rules.specs.Receive.{Listening, Receiving}
-use Rattle.exclusion.specs.Trial.{wideTrial}
+use Rattle.exclusion.specs.Trial.{trialOfNumbers}
 use Rattle.bytecells.specs.ByteSteps.{startBytes, listenBytes, emitBytes, flushBytes, receiveBytes}
 use Rattle.modulator.specs.Symbols.{Modulating}
 use Rattle.bytemodulate.specs.ByteSymbols.{modulateBytes}
@@ -75,7 +75,7 @@ module _ (d : Device) (s : List ℕ) where
 
   -- the first and the last number of the range
   unfoldable pub tryCall : ℕ → ℕ → List ℕ → Said
-  tryCall first last a = telling a (toldVerdict (wideTrial d s first last))
+  tryCall first last a = telling a (toldVerdict (trialOfNumbers d s first last))
 
   -- the subcarrier and the phase
   unfoldable pub roleCall : ℕ → ℕ → List ℕ → Said
