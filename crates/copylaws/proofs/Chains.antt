@@ -59,7 +59,7 @@ module _ (d : Device) (s : List ℕ) (a b : ℕ) (whole : length s % 8 ≡ 0) (i
   new = rangeEntry records a b
 
   -- the rest of the chain from record i on, after np pilots
-  pub record Copied (steps i np : ℕ) : Type 0 where
+  pub record CopiedFrom (steps i np : ℕ) : Type 0 where
     pub same : map unlinked (chainFrom (copyWith s a b) (suc records) (suc steps) i) ≡ map unlinked (chainFrom s records steps i) ++ new ∷ []
     pub grounds : chainGrounds d (suc records) np (chainFrom (copyWith s a b) (suc records) (suc steps) i) ≡ ground? 4 (when (badNumbers d new) records)
 
@@ -71,7 +71,7 @@ module _ (d : Device) (s : List ℕ) (a b : ℕ) (whole : length s % 8 ≡ 0) (i
 
   -- record i leads on to j
   on-step : (n i np : ℕ) → i < records → (i ≡ lastIndex s → ⊥) → leads records i (entry s i .next) ≡ true → recordGrounds d records np (entry s i) ≡ Fine
-      → Copied n (entry s i .next) (np + bit (isPilot (entry s i))) → Copied (suc n) i np
+      → CopiedFrom n (entry s i .next) (np + bit (isPilot (entry s i))) → CopiedFrom (suc n) i np
   unfolding entry
   on-step n i np h ne e f ih =
       let up = leads-up records i (entry s i .next) e in
@@ -85,7 +85,7 @@ module _ (d : Device) (s : List ℕ) (a b : ℕ) (whole : length s % 8 ≡ 0) (i
       }
 
   -- record i is the last
-  last-step : (n i np : ℕ) → i < records → i ≡ lastIndex s → leads records i (entry s i .next) ≡ false → recordGrounds d records np (entry s i) ≡ Fine → Copied (suc n) i np
+  last-step : (n i np : ℕ) → i < records → i ≡ lastIndex s → leads records i (entry s i .next) ≡ false → recordGrounds d records np (entry s i) ≡ Fine → CopiedFrom (suc n) i np
   unfolding entry
   last-step n i np h here e f =
       let is : entry (copyWith s a b) i ≡ linked records (entry s i) = rw here (last-record s a b whole inside) in
@@ -101,18 +101,18 @@ module _ (d : Device) (s : List ℕ) (a b : ℕ) (whole : length s % 8 ≡ 0) (i
         grounds = ap (chainGrounds d (suc records) np) step ∙ more-grounds np (linked records (entry s i)) _ _ (relinked-fine d records (suc records) np records (entry s i) f on) (new-grounds d records _ a b (omega arith));
       }
 
-  pub copied : (steps i np x : ℕ) → i < records → records ≤ steps + i → chainGrounds d records np (chainFrom s records steps i) ≡ Fine → lastOf x (chainFrom s records steps i) ≡ lastIndex s
-      → Copied steps i np
+  pub copied-from : (steps i np x : ℕ) → i < records → records ≤ steps + i → chainGrounds d records np (chainFrom s records steps i) ≡ Fine → lastOf x (chainFrom s records steps i) ≡ lastIndex s
+      → CopiedFrom steps i np
   unfolding chainGrounds lastOf entry
-  copied zero i np x h l f g = absurd (omega arith)
-  copied (suc n) i np x h l f g =
+  copied-from zero i np x h l f g = absurd (omega arith)
+  copied-from (suc n) i np x h l f g =
       by-test (leads records i (entry s i .next))
       (λ e.
       let up = leads-up records i (entry s i .next) e in
       let two = both-fine (recordGrounds d records np (entry s i)) (chainGrounds d records (np + bit (isPilot (entry s i))) (chainFrom s records n (entry s i .next))) (sym (ap (chainGrounds d records np) (chain-on s records n i e)) ∙ f) in
       let last : lastOf i (chainFrom s records n (entry s i .next)) ≡ lastIndex s = sym (ap (lastOf x) (chain-on s records n i e)) ∙ g in
       let above = last-from s records n (entry s i .next) i (up .1) (omega (arith, up .0)) in
-      on-step n i np h (λ z. omega (arith, up .0, above .0, last)) e (two .0) (copied n (entry s i .next) (np + bit (isPilot (entry s i))) i (up .1) (omega (arith, up .0)) (two .1) last))
+      on-step n i np h (λ z. omega (arith, up .0, above .0, last)) e (two .0) (copied-from n (entry s i .next) (np + bit (isPilot (entry s i))) i (up .1) (omega (arith, up .0)) (two .1) last))
       (λ e.
       let two = both-fine (recordGrounds d records np (entry s i)) (chainGrounds d records (np + bit (isPilot (entry s i))) []) (sym (ap (chainGrounds d records np) (chain-ends s records n i e)) ∙ f) in
       last-step n i np h (sym (ap (lastOf x) (chain-ends s records n i e)) ∙ g) e (two .0))

@@ -25,7 +25,7 @@ use Rattle.chains.proofs.LastLaws.{last-inside}
 use Rattle.copies.specs.Copy.{copyWith}
 use Rattle.copylaws.specs.Entries.{within, rangeEntry, unlinked}
 use Rattle.copylaws.proofs.Records.{copy-length, copy-count, other-record, last-record}
-use Rattle.copylaws.proofs.Chains.{Copied, copied}
+use Rattle.copylaws.proofs.Chains.{CopiedFrom, copied-from}
 use Rattle.copylaws.proofs.Ranked.{Also}
 use Rattle.copylaws.proofs.Entries.{only-unlinked, only-append, any-unlinked, any-append}
 
@@ -43,9 +43,9 @@ module _ (d : Device) (s : List ℕ) (a b : ℕ) (fine : grounds1to5 d s ≡ Fin
   abbrev new : Entry
   new = rangeEntry (length s / 8) a b
 
-  whole-chain : Copied d s a b (sized .whole) inside (length s / 8) 0 0
+  whole-chain : CopiedFrom d s a b (sized .whole) inside (length s / 8) 0 0
   unfolding lastIndex chain
-  whole-chain = copied d s a b (sized .whole) inside (length s / 8) 0 0 0 (omega (arith, sized .some)) (omega arith) (two-fine .1) refl
+  whole-chain = copied-from d s a b (sized .whole) inside (length s / 8) 0 0 0 (omega (arith, sized .some)) (omega arith) (two-fine .1) refl
 
   chain-is : chain (copyWith s a b) ≡ chainFrom (copyWith s a b) (suc (length s / 8)) (suc (length s / 8)) 0
   unfolding chain
