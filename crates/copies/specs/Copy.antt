@@ -6,9 +6,13 @@ use lib.ListN.{length}
 use lib.Seq.{sets}
 use Rattle.chains.specs.Last.{lastIndex}
 
--- the bytes of the longest copy: a plan has at most 4,096 (ground 1), and the new record 8
+-- a plan has at most so many bytes (document 01, ground 1), whatever its device
+abbrev pub planMax : ℕ
+planMax = 4096
+
+-- the bytes of the longest copy: those of the longest plan, and 8 of the new record
 abbrev pub copyMax : ℕ
-copyMax = 4104
+copyMax = planMax + 8
 
 -- a two-byte number, high byte first (document 01, "The plan on paper")
 abbrev pub twoBytes : ℕ → List ℕ

@@ -4,7 +4,7 @@ ghost use mathlib.Core.Path.{_≡_};
 ghost use lib.ListN.{length, take};
 ghost use lib.Seq.{sets};
 ghost use Rattle.chains.specs.Last.{lastIndex};
-ghost use Rattle.copies.specs.Copy.{twoBytes, rangeRecord, copyWith};
+ghost use Rattle.copies.specs.Copy.{planMax, twoBytes, rangeRecord, copyWith};
 
 // The bytes of the longest copy: that of a plan of 4,096.
 pub const COPY_MAX: usize = 4104;
@@ -47,7 +47,7 @@ fn put_range(copy: &mut [u8], at: usize, first: u16, last: u16)
 // The copy of a plan that also excludes first to last, at the start of `copy`; `end` is the index of the plan's last chain record, the
 // answer the copy's length.
 pub fn extend(plan: &[u8], end: usize, first: u16, last: u16, copy: &mut [u8]) -> usize
-    requires { ⌜ (8 ≤ length (now plan)) × (length (now plan) ≤ 4096) × (end ≡ lastIndex (now plan)) × (length (now plan) + 8 ≤ length (now copy)) ⌝ }
+    requires { ⌜ (8 ≤ length (now plan)) × (length (now plan) ≤ planMax) × (end ≡ lastIndex (now plan)) × (length (now plan) + 8 ≤ length (now copy)) ⌝ }
     ensures { λ r. ⌜ (take r (now (copy .exit)) ≡ copyWith (now (plan .entry)) first last) × (r ≡ length (now (plan .entry)) + 8) ⌝ }
 {
     let n = plan.len();

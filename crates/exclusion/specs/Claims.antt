@@ -12,7 +12,7 @@ use Rattle.rules.specs.Plan.{chain, planOf}
 use Rattle.rules.specs.Bands.{excluded}
 use Rattle.rules.specs.Roles.{continuous, ranked, rankedCount}
 use Rattle.rules.specs.Grounds.{grounds6to15, answer}
-use Rattle.copies.specs.Copy.{copyWith}
+use Rattle.copies.specs.Copy.{planMax, copyWith}
 use Rattle.copylaws.specs.Entries.{within, rangeEntry, unlinked}
 use Rattle.exclusion.specs.Trial.{trialVerdict}
 
@@ -39,10 +39,10 @@ pub record TrialClaims (d : Device) (s : List ℕ) (first last : ℕ) : Type 0 w
   -- where accepted, N_I is the number of subcarriers that still have a rank
   pub accepted : (n : ℕ) → trialVerdict d s first last ≡ Accepted n → n ≡ count (λ k. ranked d (planOf s) k && not (within first last k)) (d .subcarriers)
   -- a full plan has no room for the record
-  pub full : 4096 ≤ length s → trialVerdict d s first last ≡ Refused 1 0
+  pub full : planMax ≤ length s → trialVerdict d s first last ≡ Refused 1 0
   -- else a range that ends above the last subcarrier, or begins above its end, is refused at the new record
-  pub above : length s < 4096 → d .subcarriers ≤ last → trialVerdict d s first last ≡ Refused 4 (length s / 8)
-  pub backward : length s < 4096 → last < first → trialVerdict d s first last ≡ Refused 4 (length s / 8)
+  pub above : length s < planMax → d .subcarriers ≤ last → trialVerdict d s first last ≡ Refused 4 (length s / 8)
+  pub backward : length s < planMax → last < first → trialVerdict d s first last ≡ Refused 4 (length s / 8)
   -- and any other range is judged by 6 to 15
-  pub judged : length s < 4096 → first ≤ last → last < d .subcarriers
+  pub judged : length s < planMax → first ≤ last → last < d .subcarriers
       → trialVerdict d s first last ≡ answer (grounds6to15 d (planOf (copyWith s first last))) (rankedCount d (planOf (copyWith s first last)))

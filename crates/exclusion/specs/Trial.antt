@@ -10,7 +10,7 @@ use Rattle.rules.specs.declared.Finding.the-variants.{Fine, Ground}
 use Rattle.rules.specs.declared.Verdict.{Verdict}
 use Rattle.rules.specs.declared.Verdict.the-variants.{Refused}
 use Rattle.rules.specs.Grounds.{_else_, ground?, grounds1to5, answer, verdict}
-use Rattle.copies.specs.Copy.{copyWith}
+use Rattle.copies.specs.Copy.{planMax, copyWith}
 
 -- "A plan refused by 1 to 5 gives that refusal, else the copy's verdict is given, 1 included"
 unfoldable pub trialVerdict : Device → List ℕ → ℕ → ℕ → Verdict
@@ -30,5 +30,5 @@ unfoldable pub trialOfNumbers : Device → List ℕ → ℕ → ℕ → Verdict
 trialOfNumbers d s first last =
     pick
     (tooLarge first last)
-    (answer (grounds1to5 d s else ground? 1 (when (ltb 4096 (length s + 8)) 0) else Ground 4 (length s / 8)) 0)
+    (answer (grounds1to5 d s else ground? 1 (when (ltb planMax (length s + 8)) 0) else Ground 4 (length s / 8)) 0)
     (trialVerdict d s first last)
