@@ -7,7 +7,6 @@ use native.Mathlib.Numerals.{add-one}
 use native.Mathlib.Omega.{arith}
 use lib.Dec.{ltb, leb, leb·suc-suc}
 use lib.ListN.{length, take}
-use borrow.Author.Tests.{lt-ltb, le-ltb}
 use Rattle.counting.specs.Search.{keep, bit}
 use Rattle.rules.specs.declared.Device.{Device}
 use Rattle.rules.specs.declared.Finding.{Finding}
@@ -19,6 +18,7 @@ use Rattle.ranges.specs.Reach.{hit, Table, Flags}
 use Rattle.records.specs.Read.{foundAt}
 use Rattle.records.proofs.RecordLaws.{fine-few, fine-next, length-fine}
 use Rattle.chains.specs.Last.{lastOf, lastIndex}
+use Rattle.chains.proofs.Steps.{chain-ends, chain-on, leads-on, leads-low}
 use Rattle.chains.proofs.LastLaws.{last-any}
 use Rattle.plan.specs.Walk.{Left, Kept, Turned, PutIf, Taken}
 
@@ -81,19 +81,15 @@ module _ {d : Device} {s : List ℕ} {r np m : ℕ} {reach hot pil rec reach' ho
 
   -- e is record i, at which the loop stands
   module _ {i : ℕ} (eq : e ≡ entry s i) (k : Kept d s r i np reach hot pil rec) where
-    chain-step : (n : ℕ) (b : Bool) → leads r i (e .next) ≡ b → chainFrom s r (suc n) i ≡ e ∷ elim b [ true ↦ chainFrom s r n (e .next) | false ↦ [] ]
-    unfolding chainFrom
-    chain-step n b g =
-        sym (ap (λ (x : Entry). x ∷ elim (leads r i (x .next)) [ true ↦ chainFrom s r n (x .next) | false ↦ [] ]) eq)
-        ∙ ap (λ (t : Bool). e ∷ elim t [ true ↦ chainFrom s r n (e .next) | false ↦ [] ]) g
+    leads-from : (b : Bool) → leads r i (e .next) ≡ b → leads r i (entry s i .next) ≡ b
+    leads-from b g = sym (ap (λ (x : Entry). leads r i (x .next)) eq) ∙ g
 
     ends : (n : ℕ) → e .next ≡ 0 → chainFrom s r (suc n) i ≡ e ∷ []
-    unfolding leads
-    ends n z = chain-step n false (ap (λ (b : Bool). b && ltb (e .next) r) (le-ltb i (e .next) (omega arith)))
+    ends n z = chain-ends s r n i (leads-from false (leads-low r i (e .next) (omega arith))) ∙ sym (ap (λ (x : Entry). x ∷ []) eq)
 
     goes-on : (n : ℕ) → i < e .next → e .next < r → chainFrom s r (suc n) i ≡ e ∷ chainFrom s r n (e .next)
-    unfolding leads
-    goes-on n a b = chain-step n true (λ q. lt-ltb i (e .next) a q && lt-ltb (e .next) r b q)
+    goes-on n a b =
+        chain-on s r n i (leads-from true (leads-on r i (e .next) a b)) ∙ sym (ap (λ (x : Entry). x ∷ chainFrom s r n (x .next)) eq)
 
     last : e .next ≡ 0 → Left d s r m reach' hot' pil' rec' []
     last z = at-record k (λ n l w q. left-take [] (subst (Left d s r np reach hot pil rec) (ends n z) w))
