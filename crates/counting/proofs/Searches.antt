@@ -1,14 +1,15 @@
 -- Laws of searches and counts over stretches. Assumes nothing.
 use mathlib.Core.Path.{_≡_, refl, sym, ap, ap₂, _∙_, subst}
-use mathlib.Core.Bool.{Bool, true}
-use mathlib.Core.Option.{Option, none, some}
+use mathlib.Core.Bool.{Bool, true, false}
+use mathlib.Core.Option.{Option, none, some, Option·none-ne-some, Option·some-injective}
 use Prim.Native.Nat.{ℕ, zero, suc, _+_, _-_, _≤_, _<_}
 use native.Mathlib.Nat.{le-refl, le-suc, le-trans}
 use native.Mathlib.Numerals.{add-one}
 use native.Mathlib.Omega.{arith}
 use native.Mathlib.Decide.{le-ind}
 use Rattle.counting.specs.Search.{bit, sum, count, when, orElse, first, lowest, highest}
-use Rattle.counting.proofs.Laws.{lowest-here, none-lowest, first-stays}
+use Rattle.counting.proofs.Bools.{by-test}
+use Rattle.counting.proofs.Laws.{lowest-here, lowest-none, none-lowest, first-stays}
 use Rattle.counting.specs.Runs.{All, None}
 
 pub or-none : (o : Option ℕ) → orElse o none ≡ o
@@ -101,3 +102,25 @@ search-here f j n k l e g = first-stays f k (suc j) n l (ap₂ orElse e g)
 pub first-zero : (f : ℕ → Option ℕ) → first f 0 ≡ none
 unfolding first
 first-zero f = refl
+
+-- what the lowest is: it passes, and nothing below it does
+pub record Lowest (t : ℕ → Bool) (n k : ℕ) : Type 0 where
+  pub below : k < n
+  pub passes : t k ≡ true
+  pub none-under : (j : ℕ) → j < k → t j ≡ false
+
+pub lowest-some : (t : ℕ → Bool) (n k : ℕ) → lowest t n ≡ some k → Lowest t n k
+unfolding lowest first
+lowest-some t zero k e = absurd (Option·none-ne-some k e)
+lowest-some t (suc n) k e = go (lowest t n) refl e (λ f. lowest-some t n k f)
+  where
+    go : (o : Option ℕ) → lowest t n ≡ o → orElse o (when (t n) n) ≡ some k → (lowest t n ≡ some k → Lowest t n k) → Lowest t (suc n) k
+    go none f g ih =
+        by-test (t n)
+        (λ p.
+        let z : n ≡ k = Option·some-injective n k (sym (ap (λ (x : Bool). when x n) p) ∙ g) in
+        record { below = omega arith; passes = ap t (sym z) ∙ p; none-under = λ j l. lowest-none t n f j (omega arith) })
+        (λ p. absurd (Option·none-ne-some k (sym (ap (λ (x : Bool). when x n) p) ∙ g)))
+    go (some m) f g ih =
+        let r : Lowest t n k = ih (f ∙ g) in
+        record { below = omega (arith, r .below); passes = r .passes; none-under = r .none-under }

@@ -14,7 +14,7 @@ use Rattle.rules.specs.declared.Verdict.the-variants.{Accepted}
 use Rattle.rules.specs.Plan.{planOf}
 use Rattle.rules.specs.Roles.{ranked, rankedCount}
 use Rattle.rules.specs.Grounds.{grounds1to5, grounds1to15, verdict}
-use Rattle.verdicts.proofs.Verdicts.{accepted-is}
+use Rattle.rules.proofs.Answered.{accepted-is}
 use Rattle.copies.specs.Copy.{copyWith}
 use Rattle.copylaws.specs.Entries.{within}
 use Rattle.copylaws.proofs.Ranked as more

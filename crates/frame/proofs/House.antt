@@ -158,7 +158,3 @@ house-rank b c n p h hp =
     ∙ sum-add (λ q. bit (ltb (reversed b (q % 2 ^ b)) (reversed b (p % 2 ^ b)))) (λ q. bit (eqb (q % 2 ^ b) (p % 2 ^ b) && ltb (q / 2 ^ b) (p / 2 ^ b))) n
     ∙ ap₂ _+_ (rows b n (reversed b (p % 2 ^ b)) (omega (arith, reversed-lt b (p % 2 ^ b))))
     (columns (2 ^ b) (p % 2 ^ b) n (p / 2 ^ b) (mod-lt p (pow-pos b)) (omega (arith, div-add-mod p (2 ^ b))))
-
--- the rank does not hang on the bound of the columns
-pub rank-columns : (b c c′ n p : ℕ) → n ≤ c → n ≤ c′ → p < n → rank (houseKey b c) n p ≡ rank (houseKey b c′) n p
-rank-columns b c c′ n p h h′ l = house-rank b c n p h l ∙ sym (house-rank b c′ n p h′ l)

@@ -27,5 +27,5 @@ pub fn place(d: Device, plan: &[u8], marks: &[u16; 4096], car: &[u16], x: &[u16]
     ensures { λ _. ⌜ now (out .exit) ≡ lineSymbol (frameOf d (planOf (now (plan .entry)))) (now (x .entry)) ⌝ }
 {
     copy(marks, out);
-    rows::place_rows(car, x, out);
+    placing::place_rows(d.rowBits, car, x, out);
 }

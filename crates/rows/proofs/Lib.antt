@@ -1,3 +1,1 @@
-pub mod Walk
 pub mod RowLaws
-pub mod Stores

@@ -1,137 +1,122 @@
--- Cells row after row in the order of reversed bits. Assumes nothing.
-use Prim.Native.Nat.{ℕ, _+_, _*_, _%_, _/_, _^_, _≤_, _<_}
-use mathlib.Core.Path.{_≡_, refl, sym, ap, _∙_}
-use mathlib.Core.Logic.{by-cases}
-use mathlib.Core.Bool.{true, _&&_}
-use native.Mathlib.Nat.{mod-lt, div-add-mod', mul-le-mul-right}
-use native.Mathlib.Numerals.{add-one}
-use native.Mathlib.Decide.{decLt}
+-- Cells row after row, for any number of bits: the state of the loops in a row, and the table of 256 rows. Assumes nothing.
+use Prim.Native.Nat.{ℕ, zero, suc, _+_, _-_, _*_, _%_, _/_, _^_, _≤_, _<_}
+use mathlib.Core.Path.{_≡_, sym, ap, ap₂, _∙_}
+use mathlib.Core.Option.{Option, Option·getD}
+use native.Mathlib.Nat.{mod-eq-of-lt, div-eq-of-lt, add-mul-mod-self-right, add-mul-div-right, mul-le-mul-right, add-zero, pow-suc}
 use native.Mathlib.Omega.{arith}
-use lib.Dec.{ltb, eqb}
-use lib.Pow.{pow-pos}
-use borrow.Author.Tests.{lt-ltb, eqb-true}
-use Rattle.counting.specs.Search.{sum, count, rank}
-use Rattle.counting.proofs.Bools.{by-test}
-use Rattle.counting.proofs.Laws.{count-ext}
-use Rattle.counting.proofs.Sums.{sum-const}
-use Rattle.counting.proofs.Ranks.{InjBelow, rank-below, rank-inj, ofRank-rank, ofRank-below, rank-ofRank}
-use Rattle.rules.specs.Fits.{capacity}
+use lib.Pow.{pow-pos, pow-add, pow-mono}
+use Rattle.counting.specs.Search.{rank}
+use Rattle.counting.proofs.Ranks.{rank-below}
+use Rattle.rules.specs.Fits.{capacity, rowBitsMax}
 use Rattle.rules.specs.Frame.{reversed, houseKey}
-use Rattle.frame.specs.Rows.{rowLength, rowsBefore, houseRank}
-use Rattle.frame.proofs.House.{reversed-lt, reversed-reversed, houseKey-inj, columns, rows, house-rank}
-use Rattle.rows.specs.Loops.{rank7, cell7}
-use Rattle.rows.proofs.Walk.{Next}
+use Rattle.frame.specs.Rows.{rowsBefore}
+use Rattle.frame.proofs.House.{reversed-lt}
+use Rattle.walk.specs.Walk.{straight, walked, walkCell}
+use Rattle.walk.proofs.Rows.{rows-all, rows-here, rows-next}
+use Rattle.walk.proofs.Walks.{straight-rows}
 
--- the first p of a row that is no cell ends the row
-row-end : (R n p : ℕ) → 0 < R → n ≤ p → p < n + R → rowLength R n (p % R) ≡ p / R
-unfolding rowLength
-row-end R n p pos lo hi =
-    count-ext (λ q. eqb (q % R) (p % R)) (λ q. eqb (q % R) (p % R) && ltb (q / R) (p / R)) n (λ q l. same q l)
-    ∙ columns R (p % R) n (p / R) (mod-lt p pos) (omega (arith, div-add-mod' p R))
+pub few-rows : (b : ℕ) → b ≤ rowBitsMax → 2 ^ b ≤ capacity
+few-rows b h = let l : 2 ^ b ≤ 2 ^ rowBitsMax = pow-mono h in omega (arith, l)
+
+-- the state of the loops in a row: p in the i-th row read, o cells read before it
+pub record At (b n i p o : ℕ) : Type 0 where
+  pub row : i < 2 ^ b
+  pub place : p % 2 ^ b ≡ reversed b i
+  pub near : p < n + 2 ^ b
+  pub order : o ≡ rowsBefore b n i + p / 2 ^ b
+
+-- the sizes in a turn of the loops, for the machine's numbers
+pub record Sizes (o p rows n car : ℕ) : Type 0 where
+  pub few : n ≤ capacity
+  pub listed : n ≤ car
+  pub low : o < n
+  pub inside : p < n
+  pub rows-some : 0 < rows
+  pub rows-few : rows ≤ capacity
+
+pub at-start : (b n i p o : ℕ) → i < 2 ^ b → p ≡ reversed b i → o ≡ rowsBefore b n i → At b n i p o
+at-start b n i p o hi e eo =
+    let l : p < 2 ^ b = omega (arith, reversed-lt b i) in
+    record { row = hi; place = mod-eq-of-lt l ∙ e; near = omega arith; order = omega (arith, div-eq-of-lt l) }
+
+module _ (b n i p o : ℕ) (t : At b n i p o) where
+  -- k cells further on in the row
+  pub ahead-by : (R : ℕ) → R ≡ 2 ^ b → (k : ℕ) → p + k * R < n + R → At b n i (p + k * R) (o + k)
+  ahead-by R e k h =
+      let g : p + k * 2 ^ b < n + 2 ^ b = rw e at h in
+      rw e
+      (record {
+        row = t .row;
+        place = add-mul-mod-self-right p k (2 ^ b) ∙ t .place;
+        near = g;
+        order = omega (arith, t .order, add-mul-div-right p k (pow-pos b));
+      })
+
+  pub step-by : (R : ℕ) → R ≡ 2 ^ b → p < n → At b n i (p + R) (o + 1)
+  step-by R e h =
+      let z : p + 1 * R ≡ p + R = omega arith in
+      rw z at (ahead-by R e 1 (omega arith))
+
+  -- o is the rank of p
+  rank-at : p < n → rank (houseKey b n) n p ≡ o
+  rank-at h = rows-here b n n i p (omega arith) (t .row) h (t .place) ∙ sym (t .order)
+
+  pub low-at : p < n → o < n
+  low-at h = omega (arith, rank-below (houseKey b n) n p h, rank-at h)
+
+  -- and p is number o of the walk
+  pub cell-at : p < n → p ≡ walkCell b n o
+  unfolding walkCell
+  cell-at h =
+      sym (ap (λ (r : ℕ). Option·getD (walked b n straight r) 0) (sym (rank-at h)) ∙ ap (λ (found : Option ℕ). Option·getD found 0) (straight-rows b n n (omega arith) .comes p h))
+
+  -- past the row's last cell come those of the next row
+  pub end-at : n ≤ p → o ≡ rowsBefore b n (i + 1)
+  end-at h = t .order ∙ rows-next b n i p h (t .near) (t .place)
+
+  pub sizes-at : (R car : ℕ) → R ≡ 2 ^ b → b ≤ rowBitsMax → n ≤ capacity → n ≤ car → p < n → Sizes o p R n car
+  sizes-at R car e hb few listed h =
+      record { few = few; listed = listed; low = low-at h; inside = h; rows-some = rw e (pow-pos b); rows-few = rw e (few-rows b hb) }
+
+pub all-rows : (b n i o : ℕ) → i ≡ 2 ^ b → o ≡ rowsBefore b n i → o ≡ n
+all-rows b n i o e eo = eo ∙ ap (rowsBefore b n) e ∙ rows-all b n
+
+-- ---- four cells, each s after the one before: all lie below what the last lies below
+
+pub four-below : (k p s w : ℕ) → k < 4 → p + 3 * s < w → p + k * s < w
+four-below k p s w h l = let g : k ≤ 3 = omega arith in omega (arith, mul-le-mul-right s g)
+
+-- and the place after them less than s beyond
+pub four-near : (k p s w : ℕ) → k ≤ 4 → p + 3 * s < w → p + k * s < w + s
+four-near k p s w h l = omega (arith, mul-le-mul-right s h)
+
+-- ---- the table of 256 rows, of which every so-many-th is a row of fewer
+
+reversed-wide : (b m k : ℕ) → reversed (b + m) (k * 2 ^ m) ≡ reversed b k
+unfolding reversed
+reversed-wide b zero k =
+    let e : k * 2 ^ 0 ≡ k = omega arith in
+    ap₂ reversed (add-zero b) e
+reversed-wide b (suc m) k =
+    let e : b + suc m ≡ suc (b + m) = omega arith in
+    let w : k * 2 ^ suc m ≡ k * 2 ^ m * 2 = ap (λ (x : ℕ). k * x) (pow-suc 2 m) ∙ omega arith in
+    ap₂ reversed e w ∙ go (k * 2 ^ m)
+    ∙ reversed-wide b m k
   where
-    same : (q : ℕ) → q < n → eqb (q % R) (p % R) ≡ (eqb (q % R) (p % R) && ltb (q / R) (p / R))
-    same q l =
-        by-test (eqb (q % R) (p % R))
-        (λ e.
-        rw e
-        (by-cases (decLt (q / R) (p / R))
-        (λ c. sym (lt-ltb (q / R) (p / R) c))
-        (λ c.
-        let d : p / R ≤ q / R = omega arith in
-        absurd (omega (arith, div-add-mod' p R, div-add-mod' q R, eqb-true (q % R) (p % R) e, mul-le-mul-right R d)))))
-        (λ e. rw e refl)
+    go : (x : ℕ) → reversed (suc (b + m)) (x * 2) ≡ reversed (b + m) x
+    go x =
+        let lo : x * 2 % 2 ≡ 0 = omega arith in
+        let hi : x * 2 / 2 ≡ x = omega arith in
+        rw (lo, hi) (omega arith)
 
--- for any number of bits: o cells were read before place p of the i-th row read
-module _ (b n : ℕ) where
-  pub rows-none : rowsBefore b n 0 ≡ 0
-  unfolding rowsBefore sum
-  rows-none = refl
+pub in-table : (b step i : ℕ) → b ≤ rowBitsMax → step ≡ 2 ^ (rowBitsMax - b) → i < 2 ^ b → i * step + step ≤ 256
+in-table b step i hb es h =
+    let e : b + (rowBitsMax - b) ≡ rowBitsMax = omega arith in
+    let w : 2 ^ b * 2 ^ (rowBitsMax - b) ≡ 256 = sym (pow-add 2 b (rowBitsMax - b)) ∙ ap (λ (x : ℕ). 2 ^ x) e in
+    let g : suc i ≤ 2 ^ b = omega arith in
+    rw es (omega (arith, w, mul-le-mul-right (2 ^ (rowBitsMax - b)) g))
 
-  rows-all : rowsBefore b n (2 ^ b) ≡ n
-  unfolding count
-  rows-all =
-      sym (rows b n (2 ^ b) (omega arith))
-      ∙ count-ext (λ q. ltb (reversed b (q % 2 ^ b)) (2 ^ b)) (λ q. true) n (λ q l. lt-ltb (reversed b (q % 2 ^ b)) (2 ^ b) (reversed-lt b (q % 2 ^ b)))
-      ∙ omega (arith, sum-const 1 n)
-
-  -- at a cell, o is its rank
-  rows-here : (c i p : ℕ) → n ≤ c → i < 2 ^ b → p < n → p % 2 ^ b ≡ reversed b i → rank (houseKey b c) n p ≡ rowsBefore b n i + p / 2 ^ b
-  unfolding houseRank
-  rows-here c i p hc hi hp e =
-      house-rank b c n p hc hp ∙ ap (λ (x : ℕ). rowsBefore b n x + p / 2 ^ b) (ap (reversed b) e ∙ reversed-reversed b i hi)
-
-  -- past the row's last cell, o is that of the next row
-  rows-next : (i p : ℕ) → n ≤ p → p < n + 2 ^ b → p % 2 ^ b ≡ reversed b i → rowsBefore b n i + p / 2 ^ b ≡ rowsBefore b n (i + 1)
-  unfolding rowsBefore sum
-  rows-next i p lo hi e =
-      rw add-one
-      (ap (λ (x : ℕ). sum (λ k. rowLength (2 ^ b) n (reversed b k)) i + x) (sym (row-end (2 ^ b) n p (pow-pos b) lo hi) ∙ ap (rowLength (2 ^ b) n) e))
-
--- 128 rows
-module _ (n : ℕ) (hn : n ≤ capacity) where
-  here7 : (i p o : ℕ) → i < 128 → p < n → p % 128 ≡ reversed 7 i → o ≡ rowsBefore 7 n i + p / 128 → rank7 n p ≡ o
-  unfolding rank7
-  here7 i p o hi hp e eo = rows-here 7 n capacity i p hn hi hp e ∙ sym eo
-
-  pub below7 : (p : ℕ) → p < n → rank7 n p < n
-  unfolding rank7
-  below7 p h = rank-below (houseKey 7 capacity) n p h
-
-  inj7 : InjBelow n (rank7 n)
-  unfolding rank7
-  inj7 = rank-inj (houseKey 7 capacity) n (houseKey-inj 7 capacity n hn)
-
-  cell-rank7 : (p : ℕ) → p < n → cell7 n (rank7 n p) ≡ p
-  unfolding rank7 cell7
-  cell-rank7 p h = ofRank-rank (houseKey 7 capacity) n (houseKey-inj 7 capacity n hn) p h
-
-  pub cell-below7 : (r : ℕ) → r < n → cell7 n r < n
-  unfolding cell7
-  cell-below7 r h = ofRank-below (houseKey 7 capacity) n (houseKey-inj 7 capacity n hn) r h
-
-  pub rank-cell7 : (r : ℕ) → r < n → rank7 n (cell7 n r) ≡ r
-  unfolding rank7 cell7
-  rank-cell7 r h = rank-ofRank (houseKey 7 capacity) n (houseKey-inj 7 capacity n hn) r h
-
-  next7 : (p o : ℕ) → p < n → rank7 n p ≡ o → Next n (rank7 n) o p (o + 1)
-  next7 p o h e = record { fresh = omega arith; hit = omega arith; only = λ q hq lo hi. inj7 q p hq h (omega arith) }
-
--- the state of the inner loop: p in the i-th row read, o cells read before it
-pub record At7 (n i p o : ℕ) : Type 0 where
-  pub row : i < 128
-  pub place : p % 128 ≡ reversed 7 i
-  pub near : p < n + 128
-  pub order : o ≡ rowsBefore 7 n i + p / 128
-
-pub first7 : (n i p o : ℕ) → i < 128 → p ≡ reversed 7 i → o ≡ rowsBefore 7 n i → At7 n i p o
-first7 n i p o hi e eo =
-    let l : reversed 7 i < 2 ^ 7 = reversed-lt 7 i in
-    let h : p < 128 = omega arith in
-    record { row = hi; place = omega arith; near = omega arith; order = omega arith }
-
-module _ (n i p o : ℕ) (a : At7 n i p o) where
-  -- t cells further on in the row
-  pub ahead7 : (t : ℕ) → p + 128 * t < n + 128 → At7 n i (p + 128 * t) (o + t)
-  ahead7 t h =
-      record { row = a .row; place = omega (arith, a .place); near = h; order = omega (arith, a .order) }
-
-  pub step7 : p < n → At7 n i (p + 128) (o + 1)
-  step7 h = ahead7 1 (omega arith)
-
-  pub rank-at7 : n ≤ capacity → p < n → rank7 n p ≡ o
-  rank-at7 hn h = here7 n hn i p o (a .row) h (a .place) (a .order)
-
-  pub low7 : n ≤ capacity → p < n → o < n
-  low7 hn h = omega (arith, below7 n hn p h, rank-at7 hn h)
-
-  pub cell-at7 : n ≤ capacity → p < n → p ≡ cell7 n o
-  cell-at7 hn h = sym (cell-rank7 n hn p h) ∙ ap (cell7 n) (rank-at7 hn h)
-
-  pub visit7 : n ≤ capacity → p < n → Next n (rank7 n) o p (o + 1)
-  visit7 hn h = next7 n hn p o h (rank-at7 hn h)
-
-  pub end7 : n ≤ p → o ≡ rowsBefore 7 n (i + 1)
-  end7 h = a .order ∙ rows-next 7 n i p h (a .near) (a .place)
-
-pub last7 : (n i o : ℕ) → i ≡ 128 → o ≡ rowsBefore 7 n i → o ≡ n
-last7 n i o e eo = eo ∙ ap (rowsBefore 7 n) e ∙ rows-all 7 n
+pub row-at : (b step i : ℕ) → b ≤ rowBitsMax → step ≡ 2 ^ (rowBitsMax - b) → reversed rowBitsMax (i * step) ≡ reversed b i
+row-at b step i hb es =
+    let e : b + (rowBitsMax - b) ≡ rowBitsMax = omega arith in
+    ap₂ reversed (sym e) (ap (λ (x : ℕ). i * x) es) ∙ reversed-wide b (rowBitsMax - b) i

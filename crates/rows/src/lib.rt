@@ -1,98 +1,67 @@
-// The walk over the rows of cells in the order of reversed bits: the subcarriers by cell (`kc`) from those by rank (`car`), and the cells
-// placed on the line. Cells are read row after row, so that no rank is computed.
+// The walk of crate `walk` as code: rows of cells in the order of reversed bits, any number of rows up to 256, each cell of a row after the
+// one before it, so that no rank is computed and nothing is divided for a cell. Here the subcarriers by cell (`kc`) come from those by rank
+// (`car`); crate `placing` goes the same way, with the same table and the same laws.
 ghost use mathlib.Core.Path.{_≡_};
 ghost use mathlib.Core.List.{List};
-ghost use Prim.Native.Nat.{ℕ, _+_, _*_, _≤_, _<_};
+ghost use Prim.Native.Nat.{ℕ, _+_, _^_, _≤_, _<_};
 ghost use lib.ListN.{length, getD};
+ghost use Rattle.rules.specs.Fits.{capacity, rowBitsMax};
 ghost use Rattle.rules.specs.Frame.{reversed};
 ghost use Rattle.frame.specs.Rows.{rowsBefore};
-ghost use Rattle.rows.specs.Loops.{stores, rank7, cell7, placedUpTo};
+ghost use Rattle.rows.specs.Loops.{carriedUpTo};
 
-mod table;
+pub mod table;
 
-use counting::wide;
+use fourcells::carry_four;
 
-// The subcarrier of each cell, from the subcarriers by rank.
-pub fn cell_carriers(car: &[u16], kc: &mut [u16])
-    requires { ⌜ (length (now kc) ≤ 4096) × (length (now kc) ≤ length (now car)) ⌝ }
-    ensures { λ _. ⌜ ((p : ℕ) → p < length (now (kc .entry)) → getD (now (kc .exit)) p 0 ≡ getD (now (car .entry)) (rank7 (length (now (kc .entry))) p) 0) ⌝ }
+// 2 to the number of bits: so many rows have that many bits.
+pub fn power(bits: usize) -> usize
+    requires { ⌜ bits ≤ rowBitsMax ⌝ }
+    ensures { λ r. ⌜ r ≡ 2 ^ bits ⌝ }
 {
+    1 << bits
+}
+
+// The cells of the i-th row read, which begins with cell `row` and rank `first`, are given the subcarriers of their ranks; the rank after
+// them.
+fn carry_row(bits: usize, car: &[u16], i: usize, row: usize, first: usize, kc: &mut [u16]) -> usize
+    requires { ⌜ (bits ≤ rowBitsMax) × (length (now kc) ≤ capacity) × (length (now kc) ≤ length (now car)) × (i < 2 ^ bits) × (row ≡ reversed bits i) × (first ≡ rowsBefore bits (length (now kc)) i) ⌝ }
+    ensures rank { λ r. ⌜ r ≡ rowsBefore bits (length (now (kc .entry))) (i + 1) ⌝ }
+    ensures stored { λ r. ⌜ ((l : List ℕ) → now (kc .entry) ≡ carriedUpTo bits (length (now (kc .entry))) (now (car .entry)) first l → now (kc .exit) ≡ carriedUpTo bits (length (now (kc .entry))) (now (car .entry)) r l) ⌝ }
+{
+    let rows = power(bits);
     let ni = kc.len();
-    let order = table::ROWS;
-    let mut rank: usize = 0;
-    let mut i: usize = 0;
-    while i < 128 {
-        let mut p = table::octet(order[i]);
-        while p < ni {
-            kc[p] = car[rank];
-            rank = rank + 1;
-            p = p + 128;
-        }
-        i = i + 1;
-    }
-}
-
-// Four cells of a row, from cell p, go to the subcarriers of their ranks. All are read before any is stored, so that no read waits for a store.
-fn place_four(car: &[u16], rank: usize, cells: &[u16], p: usize, out: &mut [u16])
-    requires { ⌜ (p + 384 < length (now cells)) × (rank + 3 < length (now car)) × ((t : ℕ) → t < 4 → getD (now car) (rank + t) 0 < length (now out)) ⌝ }
-    ensures { λ _. ⌜ now (out .exit) ≡ stores (λ t. getD (now (car .entry)) (rank + t) 0) (λ t. getD (now (cells .entry)) (p + 128 * t) 0) 4 (now (out .entry)) ⌝ }
-{
-    let k0 = wide(car[rank]);
-    let k1 = wide(car[rank + 1]);
-    let k2 = wide(car[rank + 2]);
-    let k3 = wide(car[rank + 3]);
-    let x0 = cells[p];
-    let x1 = cells[p + 128];
-    let x2 = cells[p + 256];
-    let x3 = cells[p + 384];
-    out[k0] = x0;
-    out[k1] = x1;
-    out[k2] = x2;
-    out[k3] = x3;
-}
-
-// The cells of the i-th row read, which begins with cell `row` and rank `first`, go to the subcarriers of their ranks; the rank after them.
-fn place_row(
-    car: &[u16],
-    cells: &[u16],
-    i: usize,
-    row: usize,
-    first: usize,
-    out: &mut [u16],
-) -> usize
-    requires { ⌜ (length (now cells) ≤ 4096) × (length (now cells) ≤ length (now car)) × ((r : ℕ) → r < length (now cells) → getD (now car) r 0 < length (now out)) × (i < 128) × (row ≡ reversed 7 i) × (first ≡ rowsBefore 7 (length (now cells)) i) ⌝ }
-    ensures rank { λ r. ⌜ r ≡ rowsBefore 7 (length (now (cells .entry))) (i + 1) ⌝ }
-    ensures stored { λ r. ⌜ ((l : List ℕ) → now (out .entry) ≡ placedUpTo (now (car .entry)) (now (cells .entry)) first l → now (out .exit) ≡ placedUpTo (now (car .entry)) (now (cells .entry)) r l) ⌝ }
-{
-    let ni = cells.len();
     let mut rank = first;
-    let mut p = row;
-    while p + 384 < ni {
-        place_four(car, rank, cells, p, out);
+    let mut cell = row;
+    while cell + 3 * rows < ni {
+        carry_four(car, rank, cell, rows, kc);
         rank = rank + 4;
-        p = p + 512;
+        cell = cell + 4 * rows;
     }
-    while p < ni {
-        let k = wide(car[rank]);
-        out[k] = cells[p];
+    while cell < ni {
+        kc[cell] = car[rank];
         rank = rank + 1;
-        p = p + 128;
+        cell = cell + rows;
     }
     rank
 }
 
-// The cells go to the subcarriers of their ranks.
-pub fn place_rows(car: &[u16], cells: &[u16], out: &mut [u16])
-    requires { ⌜ (length (now cells) ≤ 4096) × (length (now cells) ≤ length (now car)) × ((r : ℕ) → r < length (now cells) → getD (now car) r 0 < length (now out)) ⌝ }
-    ensures { λ _. ⌜ now (out .exit) ≡ stores (λ r. getD (now (car .entry)) r 0) (λ r. getD (now (cells .entry)) (cell7 (length (now (cells .entry))) r) 0) (length (now (cells .entry))) (now (out .entry)) ⌝ }
+// The subcarrier of each cell, from the subcarriers by rank, in the order of the walk.
+pub fn cell_carriers(bits: usize, car: &[u16], kc: &mut [u16])
+    requires { ⌜ (bits ≤ rowBitsMax) × (length (now kc) ≤ capacity) × (length (now kc) ≤ length (now car)) ⌝ }
+    ensures { λ _. ⌜ now (kc .exit) ≡ carriedUpTo bits (length (now (kc .entry))) (now (car .entry)) (length (now (kc .entry))) (now (kc .entry)) ⌝ }
 {
     let order = table::ROWS;
+    let rows = power(bits);
+    let step = power(table::BITS - bits);
     let mut rank: usize = 0;
+    let mut at: usize = 0;
     let mut i: usize = 0;
-    while i < 128 {
-        let row = table::octet(order[i]);
-        let next = place_row(car, cells, i, row, rank, out);
+    while i < rows {
+        let row = table::octet(order[at]);
+        let next = carry_row(bits, car, i, row, rank, kc);
         rank = next;
+        at = at + step;
         i = i + 1;
     }
 }

@@ -19,7 +19,8 @@ use Rattle.rules.specs.Store.{emitterPlaces}
 use Rattle.rules.specs.Steps as steps
 use Rattle.rules.specs.Steps.{Emitter, Send, Sending, leaves, ground16, ground17, givenGrounds, sendGrounds, nextState, sentStore, sentSymbol, accepted, frameStep, sendStep}
 use Rattle.records.proofs.RecordLaws.{both-fine}
-use Rattle.verdicts.proofs.Verdicts.{else-assoc, accepted-is, refused-is}
+use Rattle.rules.proofs.Answered.{accepted-is, refused-is}
+use Rattle.verdicts.proofs.Verdicts.{else-assoc}
 use Rattle.steps.proofs.Lent.{Lent, lent}
 use Rattle.sendgrounds.specs.Opening.{sendVerdict}
 

@@ -1,4 +1,3 @@
 pub mod Frames
 pub mod Plans
 pub mod Parts
-pub mod Accepted

@@ -1,6 +1,6 @@
 -- The frame of an accepted plan is tied to the marks that the judge leaves. Assumes nothing.
 use Prim.Native.Nat.{ℕ, _+_}
-use mathlib.Core.Path.{refl, ap}
+use mathlib.Core.Path.{refl}
 use mathlib.Core.List.{List}
 use native.Mathlib.Omega.{arith}
 use Rattle.counting.specs.Search.{isZero}
@@ -8,7 +8,7 @@ use Rattle.rules.specs.declared.Device.{Device}
 use Rattle.rules.specs.Plan.{Plan}
 use Rattle.rules.specs.Roles.{scatteredAt}
 use Rattle.rules.specs.Fits.{Fits}
-use Rattle.rules.specs.Frame.{houseKey, frameOf}
+use Rattle.rules.specs.Frame.{frameOf}
 use Rattle.marks.specs.Marked.{Marked}
 use Rattle.marks.proofs.Marks.{zero-ranked}
 use Rattle.spots.specs.Tied.{Tied, Turning}
@@ -17,7 +17,6 @@ pub tied-of : (d : Device) (p : Plan) (m : List ℕ) → Fits d → Marked d p m
 unfolding frameOf isZero
 tied-of d p m fits w = record {
   few = fits .few;
-  rows = ap (λ (b : ℕ). houseKey b (d .subcarriers)) (fits .rows);
   long = omega (arith, fits .few, w .long);
   ranks = zero-ranked d p m w;
   marks = λ k l e. w .cell k l;

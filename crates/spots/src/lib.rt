@@ -17,7 +17,7 @@ pub fn spots(d: Device, plan: &[u8], marks: &[u16; 4096], car: &mut [u16], kc: &
     ensures spots { λ _. ⌜ ((p : ℕ) → p < length (now (kc .entry)) → getD (now (kc .exit)) p 0 ≡ spot (frameOf d (planOf (now (plan .entry)))) p) ⌝ }
 {
     carriers::carriers(marks, d.subcarriers, car);
-    rows::cell_carriers(car, kc);
+    rows::cell_carriers(d.rowBits, car, kc);
 }
 
 // The flags of the placeholders of the input symbol at phase j, from the subcarriers of the cells; and N_D.

@@ -32,9 +32,9 @@ use Rattle.rules.specs.Receive.{Listening, listens, frameListen, listenStep}
 use Rattle.records.proofs.RecordLaws.{both-fine}
 use Rattle.facts.proofs.Accepted.{when-fine, long, depth-in}
 use Rattle.verdicts.specs.Studied.{Studied}
-use Rattle.verdicts.proofs.Verdicts.{else-assoc, no-ground, first-ground, accepted-is, refused-is}
+use Rattle.rules.proofs.Answered.{accepted-is, refused-is, accepted-cells}
+use Rattle.verdicts.proofs.Verdicts.{else-assoc, no-ground, first-ground}
 use Rattle.spots.proofs.Frames.{cells-le}
-use Rattle.spots.proofs.Accepted.{accepted-cells}
 use Rattle.places.proofs.Sizes.{both-sizes}
 use Rattle.flushes.specs.Spotted.{Spotted}
 use Rattle.flushes.proofs.Fresh.{all-filler}

@@ -15,7 +15,7 @@ use Rattle.rules.proofs.Sizes.{khz50-fits}
 use Rattle.verdicts.specs.Studied.{Studied, StudiedIf}
 use Rattle.verdicts.proofs.Verdicts.{no-ground}
 use Rattle.spots.proofs.Frames.{cells-le}
-use Rattle.spots.proofs.Accepted.{accepted-cells}
+use Rattle.rules.proofs.Answered.{accepted-cells}
 use Rattle.facts.proofs.Accepted.{depth-in}
 use Rattle.steps.specs.Ready.{Ready}
 

@@ -14,7 +14,7 @@ use Rattle.rules.specs.Frame.{frameOf, cells}
 use Rattle.facts.proofs.Accepted.{long, depth-in}
 use Rattle.verdicts.proofs.Verdicts.{no-ground}
 use Rattle.spots.proofs.Frames.{cells-le}
-use Rattle.spots.proofs.Accepted.{accepted-cells}
+use Rattle.rules.proofs.Answered.{accepted-cells}
 
 -- the plan's bytes s, of N_I n
 pub record Counted (s : List ℕ) (n : ℕ) : Type 0 where

@@ -2,7 +2,6 @@
 use mathlib.Core.Path.{_≡_, refl, sym, ap, _∙_}
 use mathlib.Core.List.{List, []}
 use Prim.Native.Nat.{ℕ}
-use native.Mathlib.Omega.{arith}
 use Rattle.rules.specs.declared.Device.{Device}
 use Rattle.rules.specs.declared.Finding.{Finding}
 use Rattle.rules.specs.declared.Finding.the-variants.{Fine, Ground}
@@ -11,6 +10,7 @@ use Rattle.rules.specs.declared.Verdict.the-variants.{Accepted, Refused}
 use Rattle.rules.specs.Plan.{Plan, planOf}
 use Rattle.rules.specs.Roles.{rankedCount}
 use Rattle.rules.specs.Grounds.{_else_, ground?, outside, aroundPlc, pilotClash, grounds1to5, grounds6to15, grounds1to15, answer, verdict}
+use Rattle.rules.proofs.Answered.{accepted-is, refused-is}
 use Rattle.marks.specs.Marked.{grounds6to8}
 use Rattle.verdicts.specs.Studied.{Studied, StudiedIf}
 use Rattle.ranked.specs.Ground15.{ground15}
@@ -44,15 +44,6 @@ module _ (d : Device) (s : List ℕ) where
   -- left to the grounds from 9 on
   pub verdict-late : Fine ≡ grounds1to5 d s → Fine ≡ grounds6to8 d (planOf s) → answer (grounds9to15 d (planOf s)) (rankedCount d (planOf s)) ≡ verdict d s
   verdict-late e h = later (grounds9to15 d (planOf s)) e (ap (λ (f : Finding). f else grounds9to15 d (planOf s)) h ∙ sym (staged d (planOf s)))
-
--- what an answer says of its finding
-pub accepted-is : (f : Finding) (n m : ℕ) → Accepted n ≡ answer f m → (f ≡ Fine) × (n ≡ m)
-accepted-is Fine n m e = (refl, cc)
-accepted-is (Ground g k) n m e = let z : _≡_ {A = ℕ} 0 1 = cc in absurd (omega arith)
-
-pub refused-is : (f : Finding) (g k m : ℕ) → Refused g k ≡ answer f m → f ≡ Ground g k
-refused-is Fine g k m e = let z : _≡_ {A = ℕ} 0 1 = cc in absurd (omega arith)
-refused-is (Ground a b) g k m e = cc
 
 -- what a verdict says of the grounds
 pub no-ground : (d : Device) (s : List ℕ) (n : ℕ) → Accepted n ≡ verdict d s → grounds1to15 d s ≡ Fine

@@ -2,11 +2,13 @@
 use borrow.Author.Needs.{needs}
 use Prim.Native.Nat.{ℕ, _-_, _≤_, _<_}
 use mathlib.Core.Path.{_≡_, refl, ap, _∙_}
+use mathlib.Core.List.{List}
 use native.Mathlib.Omega.{arith}
 use lib.ListN.{length, getD, length-set}
 use Rattle.rules.specs.Plan.{planOf}
 use Rattle.rules.specs.Frame.{frameOf}
-use Rattle.rows.proofs.Walk.{Filled, filled-next, next-up}
+use Rattle.walk.specs.Stores.{stores}
+use Rattle.walk.proofs.Stores.{stores-next, stores-up}
 use Rattle.spots.proofs.Frames.{cells-le}
 use Rattle.frame.proofs.Cells.{spot-below}
 use Rattle.arrivals.proofs.Ordered.{taken-cells}
@@ -14,13 +16,14 @@ use Rattle.arrivals.proofs.line_cells.Statement.{statement}
 use Rattle.arrivals.proofs.line_cells.Tie as tie
 
 abbrev Inv-loop : tie.InvT-loop
-Inv-loop plan kc symbol x₀ n p₀ x p = (p ≤ n) × (length x ≡ length x₀) × Filled n (λ q. q) p (λ q. getD symbol (getD kc q 0) 0) x
+Inv-loop plan kc symbol x₀ n p₀ x p = (p ≤ n) × (length x ≡ length x₀) × (x ≡ stores (λ q. q) (λ q. getD symbol (getD kc q 0) 0) p x₀)
 
 abbrev μ-loop : tie.MeasureT-loop
 μ-loop plan kc symbol x₀ n p₀ x p = n - p
 
 loop-holds : tie.Need-loop-holds Inv-loop μ-loop
-loop-holds c = (omega arith, refl, λ q h l. absurd (omega arith))
+unfolding stores
+loop-holds c = (omega arith, refl, refl)
 
 mul-wide : tie.Need-mul-wide Inv-loop μ-loop
 mul-wide c = search needs
@@ -68,7 +71,7 @@ loop-again c =
     let v = getD (a .symbol .now) (c .before .wide .result) 0 in (
       omega arith,
       length-set (l .x) (l .p) v ∙ l .inv .1,
-      filled-next _ _ _ _ _ (next-up (length (a .x .now)) (l .p)) (λ q. getD (a .symbol .now) (getD (a .kc .now) q 0) 0) (l .x) v (omega arith) (ap (λ (k : ℕ). getD (a .symbol .now) k 0) (c .before .wide .ensures .0)) (l .inv .2),
+      stores-next (λ q. q) (λ q. getD (a .symbol .now) (getD (a .kc .now) q 0) 0) (l .p) (a .x .now) (l .x) (l .p) v (l .inv .2) refl (ap (λ (k : ℕ). getD (a .symbol .now) k 0) (c .before .wide .ensures .0)),
     )
 
 same-length : tie.Need-same-length Inv-loop μ-loop
@@ -78,7 +81,8 @@ returns : tie.Need-returns Inv-loop μ-loop
 returns c =
     let g = c .before .before .before .before .before .before in
     let l = c .before .loop in
-    taken-cells (frameOf (g .args .d) (planOf (g .args .plan .now))) (g .args .kc .now) (g .args .symbol .now) (l .x) (length (g .args .x .now)) (g .pre .2) (g .pre .4) (l .inv .1) (λ q h. l .inv .2 q h (omega arith))
+    taken-cells (frameOf (g .args .d) (planOf (g .args .plan .now))) (g .args .kc .now) (g .args .symbol .now) (l .x) (length (g .args .x .now)) (g .pre .2) (g .pre .4) (l .inv .1)
+    (λ q h. ap (λ (y : List ℕ). getD y q 0) (l .inv .2) ∙ stores-up (λ q. getD (g .args .symbol .now) (getD (g .args .kc .now) q 0) 0) (l .p) (g .args .x .now) (l .inv .0) q (omega arith))
 
 pub line-cells-spec : {M : Type 1} → statement M
 line-cells-spec =

@@ -14,7 +14,7 @@ use Rattle.rules.proofs.Sizes.{khz50-fits}
 use Rattle.verdicts.specs.Studied.{StudiedIf}
 use Rattle.verdicts.proofs.Verdicts.{no-ground}
 use Rattle.facts.proofs.Accepted.{depth-in}
-use Rattle.spots.proofs.Accepted.{accepted-cells}
+use Rattle.rules.proofs.Answered.{accepted-cells}
 use Rattle.cells.proofs.Answers.{count-refused, count-left}
 use Rattle.cells.proofs.data_count.Statement.{statement}
 use Rattle.cells.proofs.data_count.Tie as tie

@@ -1,22 +1,25 @@
 -- `line::copy` meets its contract. The loop has copied the places below `done`. Assumes nothing.
 use borrow.Author.Needs.{needs}
-use Prim.Native.Nat.{_-_, _≤_, _<_}
-use mathlib.Core.Path.{_≡_, refl, sym, _∙_}
+use Prim.Native.Nat.{ℕ, _-_, _≤_, _<_}
+use mathlib.Core.Path.{_≡_, refl, sym, ap, _∙_}
+use mathlib.Core.List.{List}
 use native.Mathlib.Omega.{arith}
 use lib.ListN.{length, getD, take, length-set}
 use lib.Seq.{ext-getD, length-take-le, getD-take}
-use Rattle.rows.proofs.Walk.{Filled, filled-next, next-up}
+use Rattle.walk.specs.Stores.{stores}
+use Rattle.walk.proofs.Stores.{stores-next, stores-up}
 use Rattle.line.proofs.copy.Statement.{statement}
 use Rattle.line.proofs.copy.Tie as tie
 
 abbrev Inv-loop : tie.InvT-loop
-Inv-loop from to₀ n done₀ to done = (done ≤ n) × (length to ≡ length to₀) × Filled n (λ q. q) done (λ q. getD from q 0) to
+Inv-loop from to₀ n done₀ to done = (done ≤ n) × (length to ≡ length to₀) × (to ≡ stores (λ q. q) (λ q. getD from q 0) done to₀)
 
 abbrev μ-loop : tie.MeasureT-loop
 μ-loop from to₀ n done₀ to done = n - done
 
 loop-holds : tie.Need-loop-holds Inv-loop μ-loop
-loop-holds c = (omega arith, refl, λ q h l. absurd (omega arith))
+unfolding stores
+loop-holds c = (omega arith, refl, refl)
 
 mul-to : tie.Need-mul-to Inv-loop μ-loop
 mul-to c = search needs
@@ -42,7 +45,7 @@ loop-again c =
     let l = c .before .before .loop in (
       omega arith,
       length-set (l .to) (l .done) (getD (a .from .now) (l .done) 0) ∙ l .inv .1,
-      filled-next _ _ _ _ _ (next-up (length (a .to .now)) (l .done)) (λ q. getD (a .from .now) q 0) (l .to) (getD (a .from .now) (l .done) 0) (omega arith) refl (l .inv .2),
+      stores-next (λ q. q) (λ q. getD (a .from .now) q 0) (l .done) (a .to .now) (l .to) (l .done) (getD (a .from .now) (l .done) 0) (l .inv .2) refl refl,
     )
 
 same-length : tie.Need-same-length Inv-loop μ-loop
@@ -54,7 +57,9 @@ returns c =
     let l = c .before .loop in
     let n = length (a .to .now) in
     ext-getD 0 (l .to) (take n (a .from .now)) (l .inv .1 ∙ sym (length-take-le n (a .from .now) (c .before .before .pre)))
-    (λ q h. let low : q < n = omega (arith, l .inv .1) in l .inv .2 q low (omega arith) ∙ sym (getD-take n (a .from .now) q 0 low))
+    (λ q h.
+    let low : q < n = omega (arith, l .inv .1) in
+    ap (λ (y : List ℕ). getD y q 0) (l .inv .2) ∙ stores-up (λ q. getD (a .from .now) q 0) (l .done) (a .to .now) (l .inv .0) q (omega arith) ∙ sym (getD-take n (a .from .now) q 0 low))
 
 pub copy-spec : {M : Type 1} → statement M
 copy-spec =

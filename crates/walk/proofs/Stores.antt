@@ -1,5 +1,5 @@
 -- A list after so many stores. Assumes nothing.
-use Prim.Native.Nat.{ℕ, zero, suc, _+_, _<_}
+use Prim.Native.Nat.{ℕ, zero, suc, _+_, _≤_, _<_}
 use mathlib.Core.Path.{_≡_, refl, sym, ap, _∙_}
 use mathlib.Core.Logic.{by-cases, _≢_}
 use mathlib.Core.List.{List}
@@ -10,7 +10,7 @@ use native.Mathlib.Omega.{arith}
 use lib.ListN.{length, getD, set, length-set}
 use lib.Seq.{getD-set-same, getD-set-other}
 use Rattle.counting.proofs.Ranks.{InjBelow}
-use Rattle.rows.specs.Loops.{stores}
+use Rattle.walk.specs.Stores.{stores}
 
 pub stores-next : (at v : ℕ → ℕ) (o : ℕ) (l y : List ℕ) (k x : ℕ) → y ≡ stores at v o l → k ≡ at o → x ≡ v o → set y k x ≡ stores at v (o + 1) l
 unfolding stores
@@ -56,3 +56,14 @@ stores-hit at v (suc o) l inj r h k =
     (λ c.
     let e : r ≡ o = omega arith in
     rw e (getD-set-same (stores at v o l) (at o) (v o) 0 (omega (arith, length-stores at v o l, ap at e))))
+
+-- the same stores
+pub stores-ext : (at at′ v v′ : ℕ → ℕ) (n : ℕ) (l : List ℕ) → ((r : ℕ) → r < n → at r ≡ at′ r) → ((r : ℕ) → r < n → v r ≡ v′ r) → stores at v n l ≡ stores at′ v′ n l
+unfolding stores
+stores-ext at at′ v v′ zero l ea ev = refl
+stores-ext at at′ v v′ (suc n) l ea ev =
+    rw (stores-ext at at′ v v′ n l (λ r h. ea r (omega arith)) (λ r h. ev r (omega arith)), ea n (omega arith), ev n (omega arith)) refl
+
+-- one place after the other: each holds what was stored there
+pub stores-up : (v : ℕ → ℕ) (n : ℕ) (l : List ℕ) → n ≤ length l → (q : ℕ) → q < n → getD (stores (λ q. q) v n l) q 0 ≡ v q
+stores-up v n l low q h = stores-hit (λ q. q) v n l (λ p q hp hq e. e) q h (omega arith)

@@ -1,0 +1,4 @@
+pub mod Walk
+pub mod Stores
+pub mod Claims
+pub mod Table
