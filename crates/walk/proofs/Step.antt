@@ -11,7 +11,7 @@ use native.Mathlib.Omega.{arith}
 use lib.Dec.{ltb}
 use lib.Pow.{pow-pos}
 use borrow.Author.Tests.{lt-ltb, le-ltb, ltb-true, ltb-false}
-use Rattle.counting.specs.Search.{pick, when, first, rank, ofRank}
+use Rattle.counting.specs.Search.{pick, when, rank, ofRank}
 use Rattle.counting.proofs.Bools.{and-left, and-right}
 use Rattle.counting.proofs.Laws.{lowest-none}
 use Rattle.counting.proofs.Searches.{Lowest, lowest-some}
@@ -52,20 +52,20 @@ module _ (b c n : ℕ) (hn : n ≤ c) where
     unfolding i
     i-lt = reversed-lt b (p % 2 ^ b)
 
-    turn : p % 2 ^ b ≡ reversed b i
+    row-is : p % 2 ^ b ≡ reversed b i
     unfolding i
-    turn = sym (reversed-reversed b (p % 2 ^ b) (mod-lt p (pow-pos b)))
+    row-is = sym (reversed-reversed b (p % 2 ^ b) (mod-lt p (pow-pos b)))
 
     here : rank (houseKey b c) n p ≡ rowsBefore b n i + p / 2 ^ b
-    here = rows-here b n c i p hn i-lt hp turn
+    here = rows-here b n c i p hn i-lt hp row-is
 
     -- after its last cell come the rows read later
     last-of-row : n ≤ p + 2 ^ b → rank (houseKey b c) n p + 1 ≡ rowsBefore b n (i + 1)
-    last-of-row l = omega (arith, here, add-div-right p (pow-pos b), rows-next b n i (p + 2 ^ b) l (omega arith) (add-mod-right p (2 ^ b) ∙ turn))
+    last-of-row l = omega (arith, here, add-div-right p (pow-pos b), rows-next b n i (p + 2 ^ b) l (omega arith) (add-mod-right p (2 ^ b) ∙ row-is))
 
     same-row : p + 2 ^ b < n → ranked? (houseKey b c) n (rank (houseKey b c) n p + 1) ≡ some (p + 2 ^ b)
     same-row l =
-        let e : (p + 2 ^ b) % 2 ^ b ≡ reversed b i = add-mod-right p (2 ^ b) ∙ turn in
+        let e : (p + 2 ^ b) % 2 ^ b ≡ reversed b i = add-mod-right p (2 ^ b) ∙ row-is in
         found-rank (houseKey b c) n _ (p + 2 ^ b) inj l (omega (arith, rows-here b n c i (p + 2 ^ b) hn i-lt l e, here, add-div-right p (pow-pos b)))
 
     -- a row between, which the search passed over, has no cell
