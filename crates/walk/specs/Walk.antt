@@ -1,6 +1,6 @@
--- Row after row (document 02, Req 06): the step from cell to cell, and the walk that it makes through n cells in 2 ^ b rows (document 01,
--- "Cells and interleaving"). Place x stands in row x mod 2 ^ b, column x div 2 ^ b. A cell stands at the place of its number if its
--- column is not turned, and none is today: the turn is a parameter. Assumes nothing.
+-- Row after row (document 02, Req 06): the step from cell to cell, and the walk that it makes (our word) through n cells in 2 ^ b rows
+-- (document 01, "Cells and interleaving"). Place x stands in row x mod 2 ^ b, column x div 2 ^ b. A cell stands at the place of its number
+-- if its column is not turned, and none is today: the turn is a parameter. Assumes nothing.
 use Prim.Native.Nat.{ℕ, zero, suc, _+_, _-_, _*_, _%_, _/_, _^_, _<_}
 use mathlib.Core.Path.{_≡_}
 use mathlib.Core.Bool.{_&&_}
