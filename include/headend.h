@@ -64,7 +64,7 @@ extern "C" {
 #define HEADEND_SYMBOL_BYTES 8192u   /* a symbol: 4,096 cells */
 #define HEADEND_NUMBERS 8192u        /* a modulator symbol: two floats for each subcarrier */
 #define HEADEND_DATA_BYTES_MAX 7490u /* more data cells than N_I no symbol has */
-#define HEADEND_STACK_BYTES 131072u  /* some 73,000 were measured */
+#define HEADEND_STACK_BYTES 131072u  /* some 65,000 were measured */
 
 /* The largest number that a record can hold; headend_try refuses a larger one by 4. */
 #define HEADEND_RECORD_NUMBER_MAX 65535u

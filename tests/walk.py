@@ -111,17 +111,15 @@ def numbers(xs):
 
 
 def rows_of(w, subcarriers):
-    """(row read, its line) for each row."""
-    before = 0
+    """The line of each row, in the order of reading: the cells of the walk that stand in it, with their numbers."""
+    walked = list(enumerate(w.cells()))
     for i in range(w.rows):
         row = w.row(i)
-        cells = list(range(row, w.n, w.rows))
-        of = range(before, before + len(cells))
-        before += len(cells)
+        here = [(r, p) for r, p in walked if p % w.rows == row]
         bits = format(i, '0%db' % w.bits), format(row, '0%db' % w.bits)
-        shown = [str(i), *bits, str(row), numbers(cells), numbers(of)]
+        shown = [str(i), *bits, str(row), numbers(p for _, p in here), numbers(r for r, _ in here)]
         if subcarriers:
-            shown.append(numbers(subcarriers[r] for r in of))
+            shown.append(numbers(subcarriers[r] for r, _ in here))
         yield '| %s |' % ' | '.join(shown)
 
 
