@@ -1,6 +1,6 @@
 /* Times the library beside the two C implementations, all in one run: in each round every implementation makes the same small batch of
  * calls, in turn, and what they leave is compared byte for byte. Each line gives the median round of each, in microseconds a call.
- * With bench/ring.c, a library of version 2 runs too: its stores are others, all else is compared; it has no try and no modulate.
+ * With bench/before.c, a library of version 3 runs too: it takes no profile, and has no fill and no unfill.
  *
  *     bench PLANS [ROUNDS]
  *
@@ -18,24 +18,26 @@ enum { WARM = 2, TIMED = 16, BATCH = WARM + TIMED }; /* calls of a batch; the fi
 enum { TURNS = 3 };                                  /* turns of sixteen trunks, of which the first is not timed */
 enum { POOL = 8, MOST_ROUNDS = 4096 };
 enum { RUN = 64 };                                   /* subcarriers of one load, where loads come in runs */
-enum call { JUDGE, TRY, EMIT, FLUSH, RECEIVE, MODULATE };
+enum { STREAM = 65536, SYMBOL_BITS = 52430 };        /* bytes of a stream, and the bits that a symbol takes at most */
+enum call { JUDGE, TRY, EMIT, FLUSH, RECEIVE, MODULATE, FILL, UNFILL };
 
-extern const struct calls library, best_gcc, best_clang, plain_gcc, plain_clang, ring;
+extern const struct calls library, best_gcc, best_clang, plain_gcc, plain_clang, before;
 static const struct calls *const ALL[] = {
     &library, &best_gcc, &plain_gcc,
 #ifdef WITH_CLANG
     &best_clang, &plain_clang,
 #endif
-#ifdef WITH_RING
-    &ring,
+#ifdef WITH_BEFORE
+    &before,
 #endif
 };
 enum { IMPLEMENTATIONS = sizeof ALL / sizeof ALL[0] };
 
-/* An emitter or receiver. */
+/* An emitter or receiver, or the bit of a stream at which a symbol starts. */
 struct trunk {
     uint8_t *store;
     uint32_t phase, heard;
+    size_t start;
 };
 
 /* What an implementation works on, and what its calls of a batch left. */
@@ -44,6 +46,7 @@ struct bench {
     uint8_t out[TURNS * TRUNKS][SYMBOL];
     uint8_t answer[TURNS * TRUNKS][ANSWER];
     uint32_t number[TURNS * TRUNKS];
+    uint8_t stream[STREAM]; /* into which bits go back */
     float numbers[NUMBERS], left[BATCH][NUMBERS]; /* the modulator symbol of the timed calls, and that of each call */
     double time[MOST_ROUNDS];
 };
@@ -51,6 +54,9 @@ struct bench {
 static struct bench *bench[IMPLEMENTATIONS], *feed; /* feed: the emitter whose symbols the receivers get */
 static uint8_t plan[4096], pool[POOL][DATA], arriving[TURNS * TRUNKS][SYMBOL];
 static uint8_t loads[SUBCARRIERS], minus[SUBCARRIERS];
+static uint8_t profile[SUBCARRIERS], stream[STREAM]; /* and the stream from which symbols are filled */
+static uint8_t fitting[BATCH][DATA];                 /* data of each call of a batch, within the limits of a mixed profile */
+static int mixed;                                    /* whether the profile is */
 static size_t plan_len;
 static uint32_t counts[PHASES];
 static uint32_t tried_first, tried_last; /* the range that is tried */
@@ -92,6 +98,29 @@ static void fill_pool(void)
         }
 }
 
+/* The profile: 14 everywhere, or a load for each subcarrier. */
+static void set_profile(int is_mixed)
+{
+    static const uint8_t listed[] = {0, 4, 6, 7, 8, 9, 10, 11, 12, 13, 14};
+    mixed = is_mixed;
+    for (int k = 0; k < SUBCARRIERS; k++)
+        profile[k] = mixed ? listed[chance() % sizeof listed] : 14;
+    for (int i = 0; i < STREAM; i++)
+        stream[i] = (uint8_t)chance();
+}
+
+/* Data for a batch whose first call is at this phase. */
+static void fit_data(uint32_t phase)
+{
+    uint8_t answer[ANSWER];
+    for (uint32_t i = 0; i < BATCH; i++) {
+        uint32_t j = (phase + i) % PHASES;
+        if (best_gcc.fill(plan, plan_len, profile, SUBCARRIERS, j, stream, STREAM, chance() % 400000, fitting[i], 2 * counts[j], answer,
+                          ANSWER) != 0)
+            fail("a filling is refused");
+    }
+}
+
 /* A listed load for each run of so many subcarriers, and a sign for each one's pilot. */
 static void fill_loads(int run)
 {
@@ -118,6 +147,22 @@ static uint32_t modulate(const struct calls *c, struct bench *b, int i, float *n
     return c->modulate(arriving[i], SYMBOL, loads, SUBCARRIERS, minus, SUBCARRIERS, numbers, NUMBERS, b->answer[i], ANSWER);
 }
 
+/* A symbol filled, or its bits taken back, each from where the last one's ended. */
+static void move_bits(const struct calls *c, struct bench *b, enum call call, struct trunk *t, int i)
+{
+    size_t data_len = 2 * counts[t->phase];
+    if (t->start + SYMBOL_BITS > 8 * STREAM)
+        t->start %= 8;
+    if (call == FILL)
+        b->number[i] = c->fill(plan, plan_len, profile, SUBCARRIERS, t->phase, stream, STREAM, t->start, b->out[i], data_len, b->answer[i],
+                               ANSWER);
+    else
+        b->number[i] = c->unfill(plan, plan_len, profile, SUBCARRIERS, t->phase, fitting[i], data_len, t->start, b->stream, STREAM,
+                                 b->answer[i], ANSWER);
+    t->phase = (t->phase + 1) % PHASES;
+    t->start += get(b->answer[i] + 12);
+}
+
 /* One call of the batch, on one trunk; data and symbols are those of its number. */
 static void make(const struct calls *c, struct bench *b, enum call call, struct trunk *t, int i)
 {
@@ -134,14 +179,18 @@ static void make(const struct calls *c, struct bench *b, enum call call, struct 
         b->number[i] = modulate(c, b, i, b->numbers);
         return;
     }
+    if (call == FILL || call == UNFILL) {
+        move_bits(c, b, call, t, i);
+        return;
+    }
     if (call == EMIT)
-        b->number[i] = c->emit(plan, plan_len, t->phase, t->store, c->store_bytes, pool[i % POOL], 2 * counts[t->phase], out, SYMBOL,
-                               answer, ANSWER);
+        b->number[i] = c->emit(plan, plan_len, profile, SUBCARRIERS, t->phase, t->store, c->store_bytes,
+                               mixed ? fitting[i] : pool[i % POOL], 2 * counts[t->phase], out, SYMBOL, answer, ANSWER);
     if (call == FLUSH)
         b->number[i] = c->flush(plan, plan_len, t->phase, t->store, c->store_bytes, out, SYMBOL, answer, ANSWER);
     if (call == RECEIVE)
-        b->number[i] = c->receive(plan, plan_len, t->phase, t->heard, t->store, c->store_bytes, arriving[i], SYMBOL, out, DATA, answer,
-                                  ANSWER);
+        b->number[i] = c->receive(plan, plan_len, profile, SUBCARRIERS, t->phase, t->heard, t->store, c->store_bytes, arriving[i], SYMBOL,
+                                  out, DATA, answer, ANSWER);
     t->phase = get(answer + 4);
     t->heard = get(answer + 8);
 }
@@ -178,13 +227,17 @@ static void start(const struct calls *c, struct bench *b, enum call call, int tr
             fail("a fresh start is refused");
         t->phase = get(b->answer[0] + 4);
         t->heard = get(b->answer[0] + 8);
+        t->start = 3;
     }
+    memset(b->stream, 0x5A, STREAM);
 }
 
 /* The symbols that the receivers or the modulators get next: all trunks the same ones. */
 static void arrive(enum call call, int trunks)
 {
     int all = trunks == 1 ? BATCH : TURNS * trunks;
+    if (mixed)
+        fit_data(feed->trunk[0].phase);
     for (int i = 0; i < all; i++) {
         if (i % trunks == 0)
             make(&best_gcc, feed, EMIT, &feed->trunk[0], i);
@@ -196,12 +249,14 @@ static void arrive(enum call call, int trunks)
 
 static int has(int n, enum call call)
 {
-    return (call != TRY || ALL[n]->try != NULL) && (call != MODULATE || ALL[n]->modulate != NULL);
+    const struct calls *c = ALL[n];
+    return (call != TRY || c->try != NULL) && (call != MODULATE || c->modulate != NULL) && (call != FILL || c->fill != NULL) &&
+           (call != UNFILL || c->unfill != NULL);
 }
 
 static void compare(enum call call, int trunks)
 {
-    int all = trunks == 1 ? BATCH : TURNS * trunks, cells = call == EMIT || call == FLUSH || call == RECEIVE;
+    int all = trunks == 1 ? BATCH : TURNS * trunks, cells = call == EMIT || call == FLUSH || call == RECEIVE || call == FILL;
     for (int n = 1; n < IMPLEMENTATIONS && has(n, call); n++) {
         const struct bench *a = bench[0], *b = bench[n];
         if (memcmp(a->number, b->number, (size_t)all * sizeof a->number[0]) != 0)
@@ -212,10 +267,12 @@ static void compare(enum call call, int trunks)
             fail("the symbols or the data differ");
         if (call == MODULATE && memcmp(a->left, b->left, sizeof a->left) != 0)
             fail("the modulator symbols differ");
+        if (call == UNFILL && memcmp(a->stream, b->stream, STREAM) != 0)
+            fail("the streams differ");
     }
     for (int i = 0; call != JUDGE && i < all; i++)
         if (bench[0]->number[i] != 0)
-            fail("a step or a range is refused");
+            fail("a step, a range or a stream is refused");
 }
 
 /* The stores after the last round, of those that are laid out alike. */
@@ -238,13 +295,15 @@ static void line(const char *name, const char *what, enum call call, int trunks,
 {
     int settle = 40 / (trunks == 1 ? BATCH : TURNS) + 1; /* batches until no emitter or receiver is warming */
     int steps = call == EMIT || call == FLUSH || call == RECEIVE;
-    for (int n = 0; steps && n < IMPLEMENTATIONS; n++)
+    for (int n = 0; n < IMPLEMENTATIONS; n++)
         start(ALL[n], bench[n], call, trunks);
     if (call == RECEIVE || call == MODULATE)
         start(&best_gcc, feed, EMIT, 1);
     for (int round = -settle; round < rounds; round++) {
         if (call == RECEIVE || call == MODULATE)
             arrive(call, trunks);
+        if ((call == EMIT && mixed) || call == UNFILL)
+            fit_data(bench[0]->trunk[0].phase);
         for (int n = 0; n < IMPLEMENTATIONS; n++) {
             int which = (n + (round < 0 ? 0 : round)) % IMPLEMENTATIONS;
             double time = has(which, call) ? batch(ALL[which], bench[which], call, trunks) : 0;
@@ -340,6 +399,7 @@ int main(int words, char **word)
         bench[n] = make_bench(ALL[n]);
     feed = make_bench(&best_gcc);
     fill_pool();
+    set_profile(0);
     head();
     for (size_t i = 0; i < sizeof plans / sizeof plans[0]; i++) {
         load(word[1], plans[i].file, plans[i].depth);
@@ -355,5 +415,12 @@ int main(int words, char **word)
     line("largest, M 32", "modulate, mixed", MODULATE, 1, rounds);
     fill_loads(RUN);
     line("largest, M 32", "modulate, runs", MODULATE, 1, rounds);
+    line("largest, M 32", "fill", FILL, 1, rounds);
+    line("largest, M 32", "unfill", UNFILL, 1, rounds);
+    set_profile(1);
+    line("largest, M 32", "fill, mixed", FILL, 1, rounds);
+    line("largest, M 32", "unfill, mixed", UNFILL, 1, rounds);
+    line("largest, M 32", "emit, mixed", EMIT, 1, rounds);
+    line("largest, M 32", "receive, mixed", RECEIVE, 1, rounds);
     return 0;
 }

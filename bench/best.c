@@ -1,7 +1,8 @@
 /* The head end's calls in the fastest C we could write. Excluded and taken subcarriers are sets of 4,096 bits, so that a range costs the
  * same however long it is; cells stay as they are in memory, high byte first; the stretches of neighbouring subcarriers with a rank are
  * copied whole; rows are turned into columns eight by eight; placeholders are found by comparing sixteen cells at a time; a store is moved
- * down as a whole; the points of all loads stand in one table, and sixteen subcarriers at a time are tested and looked up there. */
+ * down as a whole; loads are tested sixteen at a time and bits move four cells at a time; the points of all loads stand in one table, and
+ * sixteen subcarriers at a time are tested and looked up there. */
 #include "best.h"
 
 #include <string.h>
@@ -9,6 +10,10 @@
 /* Sixteen bytes, eight cells. */
 typedef uint8_t sixteen __attribute__((vector_size(16)));
 typedef uint16_t eight __attribute__((vector_size(16)));
+typedef int8_t signed_sixteen __attribute__((vector_size(16)));
+typedef int16_t signed_eight __attribute__((vector_size(16)));
+#define LOWER_BYTES(x, y) __builtin_shufflevector(x, y, 0, 16, 1, 17, 2, 18, 3, 19, 4, 20, 5, 21, 6, 22, 7, 23)
+#define UPPER_BYTES(x, y) __builtin_shufflevector(x, y, 8, 24, 9, 25, 10, 26, 11, 27, 12, 28, 13, 29, 14, 30, 15, 31)
 
 /* A cell as it stands in memory, at any address, and a number in that order. */
 typedef uint16_t __attribute__((may_alias, aligned(1))) cell;
@@ -17,11 +22,13 @@ typedef uint16_t __attribute__((may_alias, aligned(1))) cell;
 #define BIG64(x) (x)
 #define BIG32(x) (x)
 #define LITTLE64(x) __builtin_bswap64(x)
+#define LITTLE32(x) __builtin_bswap32(x)
 #else
 #define CELL(x) ((((x) & 0xff) << 8) | ((x) >> 8))
 #define BIG64(x) __builtin_bswap64(x)
 #define BIG32(x) __builtin_bswap32(x)
 #define LITTLE64(x) (x)
+#define LITTLE32(x) (x)
 #endif
 
 enum {
@@ -33,11 +40,12 @@ enum {
     NO_DATA = CELL(0xC000)
 };
 
-enum { SUBCARRIERS = 4096, WORDS = 64, PILOTS = 120, CELLS = 3745, SEGMENTS = 2048, ANSWER = 16 };
+enum { SUBCARRIERS = 4096, WORDS = 64, PILOTS = 120, CELLS = 3745, SEGMENTS = 2048, ANSWER = 16, MOST = 14 };
 
 /* What a plan says: which subcarriers are excluded, and which are without a rank. */
 struct plan {
     uint32_t l, m, n, pilots, place;
+    uint32_t least; /* the least load of the profile, where one is given */
     uint64_t excluded[WORDS], taken[WORDS];
     uint16_t pilot[PILOTS];
 };
@@ -635,6 +643,94 @@ static void move_received(const struct plan *s, uint8_t *store, uint16_t *x)
     c[at - 1] = last;
 }
 
+/* --- loads --- */
+
+static inline int any(const void *bytes)
+{
+    uint64_t w[2];
+    memcpy(w, bytes, sizeof w);
+    return (w[0] | w[1]) != 0;
+}
+
+/* 2 to each of sixteen loads, the lower bytes of them and the upper. */
+static inline void powers(sixteen load, sixteen *lower, sixteen *upper)
+{
+    sixteen no1 = (sixteen)((load & 2) == 0), no2 = (sixteen)((load & 4) == 0), no3 = (sixteen)((load & 8) == 0);
+    sixteen p = (load & 1) + 1, twice = p + p;
+    p = (p & no1) | ((twice + twice) & ~no1);
+    p = (p & no2) | ((sixteen)((eight)p << 4) & ~no2);
+    *lower = p & no3;
+    *upper = p & ~no3;
+}
+
+/* Of each load the bits that its cells may not have, and those that they carry. */
+static const uint16_t OVER[16] = {0xFFFE, 0, 0, 0, 0xFFF0, 0, 0xFFC0, 0xFF80, 0xFF00, 0xFE00, 0xFC00, 0xF800, 0xF000, 0xE000, 0xC000, 0};
+static const uint16_t CARRIED[16] = {0, 0, 0, 0, 0xF, 0, 0x3F, 0x7F, 0xFF, 0x1FF, 0x3FF, 0x7FF, 0xFFF, 0x1FFF, 0x3FFF, 0};
+
+/* Ground 25; and the least load. */
+static uint32_t take_profile(struct plan *s, const uint8_t *profile, size_t length)
+{
+    sixteen load, wrong = {0}, least = {0};
+    if (length != SUBCARRIERS)
+        return refuse(s, 25, 0);
+    least = ~least;
+    for (uint32_t k = 0; k < SUBCARRIERS; k += 16) {
+        memcpy(&load, profile + k, 16);
+        wrong |= (sixteen)((signed_sixteen)(load + 128) > -114) | (sixteen)((signed_sixteen)(load + 127) < -125) | (sixteen)(load == 5);
+        sixteen less = (sixteen)(load < least);
+        least = (load & less) | (least & ~less);
+    }
+    s->least = MOST;
+    for (int i = 0; i < 16; i++)
+        s->least = least[i] < s->least ? least[i] : s->least;
+    if (!any(&wrong))
+        return 0;
+    for (uint32_t k = 0;; k++)
+        if (profile[k] > MOST || (profile[k] != 0 && OVER[profile[k]] == 0))
+            return refuse(s, 25, k);
+}
+
+/* The loads in rank order; some bytes past the last are written too. */
+static void rank_loads(const struct segment *seg, uint32_t segments, const uint8_t *profile, uint8_t *loads)
+{
+    for (uint32_t i = 0; i < segments; i++) {
+        uint32_t k = seg[i].k, n = (uint32_t)(seg[i].end - k);
+        for (uint32_t j = 0; j < n; j += 32)
+            memcpy(loads + j, profile + k + j, 32);
+        loads += n;
+    }
+}
+
+/* Of each rank the bits that its cell may not have, as it stands in memory. */
+static void rank_overs(const struct plan *s, const struct segment *seg, uint32_t segments, const uint8_t *profile, uint16_t *over)
+{
+    uint8_t loads[CELLS + 64];
+    sixteen load, lower, upper;
+    rank_loads(seg, segments, profile, loads);
+    for (uint32_t r = 0; r < s->n; r += 16) {
+        memcpy(&load, loads + r, 16);
+        powers(load - (sixteen)(load == 0), &lower, &upper);
+        upper = -upper | (sixteen)(lower != 0);
+        lower = -lower;
+        sixteen first = LOWER_BYTES(upper, lower), last = UPPER_BYTES(upper, lower);
+        memcpy(over + r, &first, 16);
+        memcpy(over + r + 8, &last, 16);
+    }
+}
+
+/* The loads in cell order, two bytes each. */
+static void cell_loads(const struct plan *s, const struct segment *seg, uint32_t segments, const uint8_t *profile, uint16_t *loads)
+{
+    uint8_t ranked[CELLS + 64];
+    uint16_t line[CELLS + 64];
+    rank_loads(seg, segments, profile, ranked);
+    uint32_t r = 0;
+    do
+        line[r] = ranked[r];
+    while (++r < s->n); /* there is at least one */
+    to_cells(line, s->n, loads);
+}
+
 /* --- the symbol on the line --- */
 
 static void marks(const struct plan *s, cell *symbol)
@@ -699,18 +795,33 @@ static uint16_t mark(const struct plan *s, uint32_t k, uint32_t phase)
     return k - s->l < 8 ? PLC : CONTINUOUS;
 }
 
-static inline int is_data(uint16_t x)
+/* Whether a cell is filler or has none of these bits. */
+static inline int is_data(uint16_t x, uint16_t over)
 {
-    return (x & NO_DATA) == 0 || x == FILLER;
+    return (x & over) == 0 || x == FILLER;
+}
+
+/* How many cells of the line are no data, by the loads of their ranks. */
+static uint32_t count_marks(const struct plan *s, const struct segment *seg, uint32_t segments, const uint8_t *profile,
+                            const uint16_t *line)
+{
+    uint16_t over[CELLS + 64], no_data = 0;
+    if (s->least == MOST) {
+        for (uint32_t r = 0; r < s->n; r++)
+            no_data += !is_data(line[r], NO_DATA);
+        return no_data;
+    }
+    rank_overs(s, seg, segments, profile, over);
+    for (uint32_t r = 0; r < s->n; r++)
+        no_data += !is_data(line[r], over[r]);
+    return no_data;
 }
 
 /* Whether every cell is its role's: the cells that are no data are counted, and those that must be marks looked at one by one. */
-static int all_right(const struct plan *s, uint32_t phase, const cell *symbol, const uint16_t *line, uint32_t others)
+static int all_right(const struct plan *s, uint32_t phase, const cell *symbol, uint32_t no_data, uint32_t others)
 {
     static const uint8_t distances[4] = {15, 24, 35, 47};
-    uint16_t wrong = 0, no_data = 0, scattered = 0;
-    for (uint32_t r = 0; r < s->n; r++)
-        no_data += !is_data(line[r]);
+    uint16_t wrong = 0, scattered = 0;
     for (uint32_t k = (s->l + 8 + phase) & 127; k < SUBCARRIERS; k += 128) {
         uint16_t ranked = !has(s->taken, k);
         scattered += ranked;
@@ -726,12 +837,12 @@ static int all_right(const struct plan *s, uint32_t phase, const cell *symbol, c
 }
 
 /* The lowest subcarrier whose cell is not its role's. */
-static uint32_t first_wrong(const struct plan *s, uint32_t phase, const cell *symbol)
+static uint32_t first_wrong(const struct plan *s, const uint8_t *profile, uint32_t phase, const cell *symbol)
 {
     uint32_t k = 0;
     for (;; k++) {
         uint16_t want = mark(s, k, phase);
-        if (want == 0 ? !is_data(symbol[k]) : symbol[k] != want)
+        if (want == 0 ? !is_data(symbol[k], CELL(OVER[profile[k]])) : symbol[k] != want)
             return k;
     }
 }
@@ -910,16 +1021,63 @@ static void send(const struct plan *s, const struct segment *seg, uint32_t segme
     place(s, seg, segments, line, (cell *)symbol);
 }
 
-uint32_t best_emit(const uint8_t *plan, size_t plan_len, uint32_t phase, uint8_t *store, size_t store_len, const uint8_t *data,
-                   size_t data_len, uint8_t *symbol, size_t symbol_len, uint8_t *answer, size_t answer_len)
+/* The same with the profile, which is tried after the plan. */
+static uint32_t begin_loaded(struct plan *s, const uint8_t *plan, size_t plan_len, const uint8_t *profile, size_t profile_len,
+                             uint32_t phase, uint32_t heard)
+{
+    uint32_t g = judge(s, plan, plan_len);
+    if (g == 0)
+        g = take_profile(s, profile, profile_len);
+    if (g != 0)
+        return g;
+    return phase >= 128 || heard >= s->m ? refuse(s, 16, 0) : 0;
+}
+
+/* Whether every cell is within the limit of its load: if all are within that of the least, then at once. */
+static int all_within(const struct plan *s, const struct segment *seg, uint32_t segments, const uint8_t *profile, const uint16_t *holder,
+                      uint32_t holders, const cell *data, const uint16_t *cells)
+{
+    uint16_t over[CELLS + 64], by_cell[CELLS], wrong = 0;
+    for (uint32_t i = 0; i < s->n - holders; i++)
+        wrong |= data[i];
+    if ((wrong & CELL(OVER[s->least])) == 0)
+        return 1;
+    if (s->least == MOST)
+        return 0;
+    rank_overs(s, seg, segments, profile, over);
+    to_cells(over, s->n, by_cell);
+    for (uint32_t i = 0; i < holders; i++)
+        by_cell[holder[i]] = 0;
+    wrong = 0;
+    for (uint32_t p = 0; p < s->n; p++)
+        wrong |= cells[p] & by_cell[p];
+    return wrong == 0;
+}
+
+/* The position of the first data cell over the limit of its load. */
+static uint32_t first_over(const struct plan *s, const struct segment *seg, uint32_t segments, const uint8_t *profile,
+                           const uint16_t *holder, uint32_t holders, const cell *data)
+{
+    uint16_t by_cell[CELLS], loads[CELLS];
+    uint32_t i = 0;
+    cell_loads(s, seg, segments, profile, by_cell);
+    take_data(loads, by_cell, s->n, holder, holders);
+    while (!(data[i] & CELL(OVER[loads[i]])))
+        i++;
+    return i;
+}
+
+uint32_t best_emit(const uint8_t *plan, size_t plan_len, const uint8_t *profile, size_t profile_len, uint32_t phase, uint8_t *store,
+                   size_t store_len, const uint8_t *data, size_t data_len, uint8_t *symbol, size_t symbol_len, uint8_t *answer,
+                   size_t answer_len)
 {
     struct plan s;
     struct segment seg[SEGMENTS];
-    uint16_t holder[CELLS], cells[CELLS], over = 0;
+    uint16_t holder[CELLS], cells[CELLS];
     const cell *x = (const cell *)data;
     if (answer_len < ANSWER || (store_len | data_len | symbol_len) % 2 != 0)
         return say(answer, answer_len, 21, 0, phase, 0, 0);
-    uint32_t g = begin(&s, plan, plan_len, phase, 0);
+    uint32_t g = begin_loaded(&s, plan, plan_len, profile, profile_len, phase, 0);
     if (g == 0 && (store_len / 2 < emitter_places(&s) || symbol_len != 2 * SUBCARRIERS))
         g = refuse(&s, 17, 0);
     if (g != 0)
@@ -927,15 +1085,9 @@ uint32_t best_emit(const uint8_t *plan, size_t plan_len, uint32_t phase, uint8_t
     uint32_t segments = find_segments(&s, seg), holders = find_holders(&s, seg, segments, phase, holder);
     if (data_len / 2 != s.n - holders)
         return say(answer, answer_len, 18, 0, phase, 0, 0);
-    for (uint32_t i = 0; i < s.n - holders; i++)
-        over |= x[i];
-    if (over & NO_DATA) {
-        uint32_t i = 0;
-        while (!(x[i] & NO_DATA))
-            i++;
-        return say(answer, answer_len, 19, i, phase, 0, 0);
-    }
     fill_data(cells, s.n, holder, holders, x);
+    if (!all_within(&s, seg, segments, profile, holder, holders, x, cells))
+        return say(answer, answer_len, 19, first_over(&s, seg, segments, profile, holder, holders, x), phase, 0, 0);
     send(&s, seg, segments, cells, store, symbol);
     return say(answer, answer_len, 0, 0, (phase + 1) & 127, 0, 0);
 }
@@ -959,8 +1111,9 @@ uint32_t best_flush(const uint8_t *plan, size_t plan_len, uint32_t phase, uint8_
     return say(answer, answer_len, 0, 0, (phase + 1) & 127, 0, 0);
 }
 
-uint32_t best_receive(const uint8_t *plan, size_t plan_len, uint32_t phase, uint32_t heard, uint8_t *store, size_t store_len,
-                      const uint8_t *symbol, size_t symbol_len, uint8_t *data, size_t data_len, uint8_t *answer, size_t answer_len)
+uint32_t best_receive(const uint8_t *plan, size_t plan_len, const uint8_t *profile, size_t profile_len, uint32_t phase, uint32_t heard,
+                      uint8_t *store, size_t store_len, const uint8_t *symbol, size_t symbol_len, uint8_t *data, size_t data_len,
+                      uint8_t *answer, size_t answer_len)
 {
     struct plan s;
     struct segment seg[SEGMENTS];
@@ -968,7 +1121,7 @@ uint32_t best_receive(const uint8_t *plan, size_t plan_len, uint32_t phase, uint
     uint32_t holders = 0, count = 0;
     if (answer_len < ANSWER || (store_len | symbol_len | data_len) % 2 != 0)
         return say(answer, answer_len, 21, 0, phase, heard, 0);
-    uint32_t g = begin(&s, plan, plan_len, phase, heard);
+    uint32_t g = begin_loaded(&s, plan, plan_len, profile, profile_len, phase, heard);
     if (g == 0 && (store_len / 2 < receiver_places(&s) || symbol_len != 2 * SUBCARRIERS))
         g = refuse(&s, 17, 0);
     if (g != 0)
@@ -981,8 +1134,9 @@ uint32_t best_receive(const uint8_t *plan, size_t plan_len, uint32_t phase, uint
             return say(answer, answer_len, 17, 0, phase, heard, 0);
     }
     uint32_t others = fetch(seg, segments, (const cell *)symbol, line);
-    if (!all_right(&s, phase, (const cell *)symbol, line, others))
-        return say(answer, answer_len, 20, first_wrong(&s, phase, (const cell *)symbol), phase, heard, 0);
+    uint32_t no_data = count_marks(&s, seg, segments, profile, line);
+    if (!all_right(&s, phase, (const cell *)symbol, no_data, others))
+        return say(answer, answer_len, 20, first_wrong(&s, profile, phase, (const cell *)symbol), phase, heard, 0);
     to_cells(line, s.n, cells);
     move_received(&s, store, cells);
     if (!warming)
@@ -990,13 +1144,206 @@ uint32_t best_receive(const uint8_t *plan, size_t plan_len, uint32_t phase, uint
     return say(answer, answer_len, 0, 0, (phase + 1) & 127, heard + warming, count);
 }
 
+/* --- filling and the way back --- */
+
+/* A symbol's bits lie in a buffer of their own while they move: 3,745 cells of 14 bits, up to seven before, and room for eight bytes more
+ * than are used. */
+enum { BITS_ROOM = (CELLS * MOST + 7) / 8 + 16 };
+
+static inline uint64_t eight_bytes(const uint8_t *at)
+{
+    uint64_t w;
+    memcpy(&w, at, 8);
+    return LITTLE64(w);
+}
+
+static inline void put_eight(uint8_t *at, uint64_t w)
+{
+    w = LITTLE64(w);
+    memcpy(at, &w, 8);
+}
+
+/* What both are given, tried: grounds 1 to 15, 25, 16, 18 and 26. The loads of the data cells, four more of load 0, and their sum. */
+static uint32_t begin_bits(struct plan *s, const uint8_t *plan, size_t plan_len, const uint8_t *profile, size_t profile_len, uint32_t phase,
+                           size_t data_len, size_t stream_len, size_t start, uint16_t *loads, uint32_t *bits)
+{
+    struct segment seg[SEGMENTS];
+    uint16_t holder[CELLS], by_cell[CELLS];
+    uint32_t g = begin_loaded(s, plan, plan_len, profile, profile_len, phase, 0), sum = 0;
+    if (g != 0)
+        return g;
+    uint32_t segments = find_segments(s, seg), holders = find_holders(s, seg, segments, phase, holder), count = s->n - holders;
+    if (data_len / 2 != count)
+        return refuse(s, 18, 0);
+    if (s->least == MOST) {
+        sum = MOST * count;
+    } else {
+        cell_loads(s, seg, segments, profile, by_cell);
+        take_data(loads, by_cell, s->n, holder, holders);
+        memset(loads + count, 0, 8);
+        for (uint32_t i = 0; i < count; i++)
+            sum += loads[i];
+    }
+    *bits = sum;
+    if (sum != 0 && (start >> 3 >= stream_len || ((sum + (start & 7) + 7) >> 3) > stream_len - (start >> 3)))
+        return refuse(s, 26, 0);
+    return 0;
+}
+
+/* Four cells of load 14 from the lower bits of w, as they stand in memory, and back. */
+static inline uint64_t spread(uint64_t w)
+{
+    const uint64_t m = 0x3FFF;
+    return (w << 48 & m << 48) | (w << 18 & m << 32) | (w >> 12 & m << 16) | (w >> 42 & m);
+}
+
+static inline uint64_t gather(uint64_t y)
+{
+    const uint64_t m = 0x3FFF;
+    return (y >> 48 & m) | (y >> 18 & m << 14) | (y << 12 & m << 28) | (y << 42 & m << 42);
+}
+
+/* Cells of load 14, from bit `odd` of the first byte on: four of them are seven bytes. */
+static void fill_fourteens(const uint8_t *from, uint32_t odd, uint32_t count, cell *data)
+{
+    uint32_t i = 0;
+    for (; i + 4 <= count; i += 4, from += 7) {
+        uint64_t y = BIG64(spread(eight_bytes(from) >> odd));
+        memcpy(data + i, &y, 8);
+    }
+    uint64_t w = eight_bytes(from) >> odd;
+    for (; i < count; i++, w >>= 14) {
+        uint16_t x = w & 0x3FFF;
+        data[i] = CELL(x);
+    }
+}
+
+/* Cells of any loads, four at a time: at most 56 bits. `loads` has four more of 0, and `data` room for as many cells as there are. */
+static void fill_loads(const uint8_t *from, uint32_t odd, const uint16_t *loads, uint32_t count, cell *data)
+{
+    uint32_t at = odd, i = 0;
+    for (; i + 4 <= count; i += 4) {
+        const uint16_t *l = loads + i;
+        uint64_t w = eight_bytes(from + (at >> 3)) >> (at & 7), v = w >> (l[0] + l[1]), y;
+        y = (w & CARRIED[l[0]]) << 48 | (w >> l[0] & CARRIED[l[1]]) << 32 | (v & CARRIED[l[2]]) << 16 | (v >> l[2] & CARRIED[l[3]]);
+        y = BIG64(y);
+        memcpy(data + i, &y, 8);
+        at += (uint32_t)(l[0] + l[1]) + l[2] + l[3];
+    }
+    for (; i < count; i++) {
+        uint16_t x = (uint16_t)(eight_bytes(from + (at >> 3)) >> (at & 7)) & CARRIED[loads[i]];
+        data[i] = CELL(x);
+        at += loads[i];
+    }
+}
+
+/* Puts cells of load 14 behind the `odd` bits that the first byte has; answers the bits that none of them may have. */
+static uint16_t unfill_fourteens(const cell *data, uint32_t count, uint32_t odd, uint8_t *to)
+{
+    uint64_t kept = *to & ((1u << odd) - 1), y;
+    uint16_t over = 0;
+    uint32_t i = 0;
+    for (uint32_t j = 0; j < count; j++)
+        over |= data[j];
+    for (; i + 4 <= count; i += 4, to += 7) {
+        memcpy(&y, data + i, 8);
+        kept |= gather(BIG64(y)) << odd;
+        put_eight(to, kept);
+        kept >>= 56;
+    }
+    for (; i < count; i++, odd += 14)
+        kept |= (uint64_t)(CELL(data[i]) & 0x3FFF) << odd;
+    put_eight(to, kept);
+    return over & NO_DATA;
+}
+
+/* Four cells of any loads put behind `odd` bits that are kept; `over` collects the bits that they do not carry. */
+static inline uint64_t join(const cell *data, const uint16_t *l, uint64_t kept, uint32_t odd, uint16_t *over)
+{
+    uint16_t a = CELL(data[0]), b = CELL(data[1]), c = CELL(data[2]), d = CELL(data[3]);
+    uint16_t u = a & CARRIED[l[0]], v = b & CARRIED[l[1]], w = c & CARRIED[l[2]], x = d & CARRIED[l[3]];
+    *over |= (uint16_t)((a ^ u) | (b ^ v) | (c ^ w) | (d ^ x));
+    uint64_t first = (uint64_t)u | (uint64_t)v << l[0], second = (uint64_t)w | (uint64_t)x << l[2];
+    return kept | (first | second << (l[0] + l[1])) << odd;
+}
+
+/* The same of any loads. `loads` has four more of 0, and no cell is read for them. */
+static uint16_t unfill_loads(const cell *data, const uint16_t *loads, uint32_t count, uint32_t odd, uint8_t *to)
+{
+    uint64_t kept = *to & ((1u << odd) - 1);
+    uint16_t over = 0, last[4] = {0, 0, 0, 0};
+    uint32_t i = 0;
+    for (; i + 4 <= count; i += 4) {
+        const uint16_t *l = loads + i;
+        uint32_t all = odd + l[0] + l[1] + l[2] + l[3];
+        kept = join(data + i, l, kept, odd, &over);
+        put_eight(to, kept);
+        to += all >> 3;
+        kept >>= all & 56;
+        odd = all & 7;
+    }
+    memcpy(last, data + i, 2 * (count - i));
+    put_eight(to, join(last, loads + i, kept, odd, &over));
+    return over & 0xFFFE; /* bit 0 is that of a cell with load 0 */
+}
+
+uint32_t best_fill(const uint8_t *plan, size_t plan_len, const uint8_t *profile, size_t profile_len, uint32_t phase, const uint8_t *stream,
+                   size_t stream_len, size_t start, uint8_t *data, size_t data_len, uint8_t *answer, size_t answer_len)
+{
+    struct plan s;
+    uint16_t loads[CELLS + 4];
+    uint8_t from[BITS_ROOM];
+    uint32_t bits = 0, odd = start & 7;
+    if (answer_len < ANSWER || data_len % 2 != 0)
+        return say(answer, answer_len, 21, 0, 0, 0, 0);
+    uint32_t g = begin_bits(&s, plan, plan_len, profile, profile_len, phase, data_len, stream_len, start, loads, &bits);
+    if (g != 0)
+        return say(answer, answer_len, g, s.place, 0, 0, 0);
+    size_t bytes = bits == 0 ? 0 : (odd + bits + 7) >> 3;
+    if (bytes != 0)
+        memcpy(from, stream + (start >> 3), bytes);
+    memset(from + bytes, 0, 8);
+    if (s.least == MOST)
+        fill_fourteens(from, odd, (uint32_t)(data_len / 2), (cell *)data);
+    else
+        fill_loads(from, odd, loads, (uint32_t)(data_len / 2), (cell *)data);
+    return say(answer, answer_len, 0, 0, 0, 0, bits);
+}
+
+uint32_t best_unfill(const uint8_t *plan, size_t plan_len, const uint8_t *profile, size_t profile_len, uint32_t phase, const uint8_t *data,
+                     size_t data_len, size_t start, uint8_t *stream, size_t stream_len, uint8_t *answer, size_t answer_len)
+{
+    struct plan s;
+    uint16_t loads[CELLS + 4], holder[CELLS];
+    struct segment seg[SEGMENTS];
+    uint8_t to[BITS_ROOM];
+    uint32_t bits = 0, odd = start & 7, count = (uint32_t)(data_len / 2);
+    const cell *x = (const cell *)data;
+    if (answer_len < ANSWER || data_len % 2 != 0)
+        return say(answer, answer_len, 21, 0, 0, 0, 0);
+    uint32_t g = begin_bits(&s, plan, plan_len, profile, profile_len, phase, data_len, stream_len, start, loads, &bits);
+    if (g != 0)
+        return say(answer, answer_len, g, s.place, 0, 0, 0);
+    size_t bytes = bits == 0 ? 0 : (odd + bits + 7) >> 3;
+    uint8_t *at = bytes == 0 ? NULL : stream + (start >> 3), last = bytes == 0 ? 0 : at[bytes - 1];
+    to[0] = bytes == 0 ? 0 : at[0];
+    uint16_t over = s.least == MOST ? unfill_fourteens(x, count, odd, to) : unfill_loads(x, loads, count, odd, to);
+    if (over != 0) {
+        uint32_t segments = find_segments(&s, seg), holders = find_holders(&s, seg, segments, phase, holder);
+        return say(answer, answer_len, 19, first_over(&s, seg, segments, profile, holder, holders, x), 0, 0, 0);
+    }
+    if (bytes != 0) {
+        uint32_t used = (odd + bits) & 7; /* bits of the last byte */
+        memcpy(at, to, bytes);
+        if (used != 0)
+            at[bytes - 1] = (uint8_t)((to[bytes - 1] & ((1u << used) - 1)) | (last & ~((1u << used) - 1)));
+    }
+    return say(answer, answer_len, 0, 0, 0, 0, bits);
+}
+
 /* --- the modulator --- */
 
-typedef int8_t signed_sixteen __attribute__((vector_size(16)));
-typedef int16_t signed_eight __attribute__((vector_size(16)));
 typedef double two __attribute__((vector_size(16)));
-#define LOWER_BYTES(x, y) __builtin_shufflevector(x, y, 0, 16, 1, 17, 2, 18, 3, 19, 4, 20, 5, 21, 6, 22, 7, 23)
-#define UPPER_BYTES(x, y) __builtin_shufflevector(x, y, 8, 24, 9, 25, 10, 26, 11, 27, 12, 28, 13, 29, 14, 30, 15, 31)
 
 /* The two numbers of each value at each load, at 2^load + value. Where those of loads 3 and 5 would be, which are not listed, stand those
  * of the marks, at MARK + mark - 0x8000, and with the minus sign at MINUS more. Made once, as the program starts. */
@@ -1053,17 +1400,6 @@ __attribute__((constructor)) static void make_lines(void)
     }
 }
 
-/* 2 to each of sixteen loads, the lower bytes of them and the upper. */
-static inline void powers(sixteen load, sixteen *lower, sixteen *upper)
-{
-    sixteen no1 = (sixteen)((load & 2) == 0), no2 = (sixteen)((load & 4) == 0), no3 = (sixteen)((load & 8) == 0);
-    sixteen p = (load & 1) + 1, twice = p + p;
-    p = (p & no1) | ((twice + twice) & ~no1);
-    p = (p & no2) | ((sixteen)((eight)p << 4) & ~no2);
-    *lower = p & no3;
-    *upper = p & ~no3;
-}
-
 /* Of eight cells with 2 to their loads, and MINUS where the sign is minus, the indices in LINE. `over` collects bits of unmarked cells that
  * are not below 2 to the load. */
 static inline eight indices(eight cells, eight power, eight minus, eight *over)
@@ -1071,13 +1407,6 @@ static inline eight indices(eight cells, eight power, eight minus, eight *over)
     eight marked = (eight)((signed_eight)cells < (int16_t)-0x7FFB);
     *over |= cells & -power & ~marked;
     return ((cells | power) & ~marked) | ((cells - 0x8000 + MARK + minus) & marked);
-}
-
-static inline int any(const void *bytes)
-{
-    uint64_t w[2];
-    memcpy(w, bytes, sizeof w);
-    return (w[0] | w[1]) != 0;
 }
 
 /* Of each subcarrier the index in LINE, and of each sixteen whether one is left open. Answers whether nothing refuses. */

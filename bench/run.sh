@@ -4,8 +4,8 @@
 #
 #     bench/run.sh [ROUNDS]
 #
-# LIBRARY=FILE.a takes a library that is built already. RING=FILE.a sets a library of version 2, with M rows of N_I cells in a store, beside
-# the others in the same run: its ratio is that of the store of today to the ring.
+# LIBRARY=FILE.a takes a library that is built already. BEFORE=FILE.a sets a library of version 3, whose emit and receive take no
+# profile, beside the others in the same run.
 set -eu
 cd "$(dirname "$0")/.."
 rounds=${1:-300}
@@ -40,16 +40,16 @@ if [ -x "$clang" ] && table best_clang best.c best_ "$clang" -isystem "$(gcc -pr
 else
     echo "no clang: best and plain C are gcc's alone"
 fi
-if [ -n "${RING:-}" ]; then
-    renamed=$(for call in judge role data_count fresh_emitter fresh_receiver emit flush receive; do
-        echo "--redefine-sym headend_$call=ring_$call"
+if [ -n "${BEFORE:-}" ]; then
+    renamed=$(for call in judge try role data_count fresh_emitter fresh_receiver emit flush receive modulate; do
+        echo "--redefine-sym headend_$call=before_$call"
     done)
-    objcopy $renamed "$RING" $out/libring.a
-    gcc $flags -Wall -Wextra -Ibench -c bench/ring.c -o $out/calls.o
-    gcc -r -nostdlib $out/calls.o -Wl,--whole-archive $out/libring.a -o $out/ring.o
-    objcopy --keep-global-symbol=ring $out/ring.o
-    objects="$objects $out/ring.o"
-    with="$with -DWITH_RING"
+    objcopy $renamed "$BEFORE" $out/libbefore.a
+    gcc $flags -Wall -Wextra -Ibench -c bench/before.c -o $out/calls.o
+    gcc -r -nostdlib $out/calls.o -Wl,--whole-archive $out/libbefore.a -o $out/before.o
+    objcopy --keep-global-symbol=before $out/before.o
+    objects="$objects $out/before.o"
+    with="$with -DWITH_BEFORE"
 fi
 gcc -O2 -Wall -Wextra -Ibench $with -DFLAGS="\"$flags\"" -c bench/bench.c -o $out/bench.o
 reversed=$(for o in $objects; do echo "$o"; done | tac | tr '\n' ' ')

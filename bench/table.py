@@ -31,24 +31,24 @@ def better(numbers, kind):
     return min((time, name[len(kind) + 1:]) for name, time in numbers.items() if name.startswith(kind))
 
 
-def to_ring(numbers):
-    """The columns of a library of version 2, if it ran."""
-    if 'ring' not in numbers[0]:
+def to_before(numbers):
+    """The columns of a library of version 3, if it ran."""
+    if 'before' not in numbers[0]:
         return ''
-    if numbers[0]['ring'] == 0:                     # a call that version 2 has not
-        return '%8s %9s %-13s ' % ('', '', '')
-    ratios = [n['library'] / n['ring'] for n in numbers]
+    if numbers[0]['before'] == 0:                     # a call that version 3 has not
+        return '%8s %10s %-13s ' % ('', '', '')
+    ratios = [n['library'] / n['before'] for n in numbers]
     mid = statistics.median
-    return '%8.2f %9.2f %-13s ' % (mid(n['ring'] for n in numbers), mid(ratios), '%.2f..%.2f' % (min(ratios), max(ratios)))
+    return '%8.2f %10.2f %-13s ' % (mid(n['before'] for n in numbers), mid(ratios), '%.2f..%.2f' % (min(ratios), max(ratios)))
 
 
 def main():
     runs = [read(path) for path in sys.argv[1:]]
     print('\n'.join(runs[0][0]))
-    ring = any('ring' in numbers for numbers in runs[0][1].values())
+    before = any('before' in numbers for numbers in runs[0][1].values())
     form = '%-16s %-19s %8s %8s %8s %8s %-6s %8s %-6s %9s %-13s %9s %-13s %s%s'
     print(form % ('plan', 'call', 'library', 'lowest', 'best C', 'lowest', 'by', 'plain C', 'by', 'lib/best', 'spread', 'lib/plain',
-                  'spread', '%8s %9s %-13s ' % ('ring', 'lib/ring', 'spread') if ring else '', 'real time'))
+                  'spread', '%8s %10s %-13s ' % ('before', 'lib/before', 'spread') if before else '', 'real time'))
     for line in runs[0][1]:
         of = [lines[line] for _, lines in runs]
         library = [n['library'] for n in of]
@@ -60,7 +60,7 @@ def main():
             *line, '%.2f' % mid(library), '%.2f' % min(library), '%.2f' % mid(b for b, _ in best), '%.2f' % min(best)[0], best[0][1],
             '%.2f' % mid(b for b, _ in plain), plain[0][1],
             '%.2f' % mid(to_best), '%.2f..%.2f' % (min(to_best), max(to_best)),
-            '%.2f' % mid(to_plain), '%.2f..%.2f' % (min(to_plain), max(to_plain)), to_ring(of),
+            '%.2f' % mid(to_plain), '%.2f..%.2f' % (min(to_plain), max(to_plain)), to_before(of),
             '' if line[1] in ('judge', 'try') else 'ok' if mid(library) <= REAL_TIME else 'over'))
 
 

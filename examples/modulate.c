@@ -1,5 +1,6 @@
-/* What the modulator is given: judges a plan, emits M symbols of data, fills a modulator symbol from each, and says what stands on the
- * line. Then shows a load that is refused. In the folder of the repository:
+/* What the modulator is given: judges a plan, emits M symbols filled from a bit stream under a load profile, fills a modulator symbol from
+ * each with the loads of that profile, and says what stands on the line. Then shows a load that is refused. In the folder of the
+ * repository:
  *
  *     rt staticlib headend
  *     gcc -O2 -Iinclude examples/modulate.c target/staticlib/libheadend.a -o modulate
@@ -12,7 +13,7 @@
 #include <stdlib.h>
 #include <string.h>
 
-enum { START = 125, LEAST_LOAD = 6, LOADS = 9 }; /* loads 6 to 14 in turn: data below 2^6 fits all of them */
+enum { START = 125, LEAST_LOAD = 6, LOADS = 9 }; /* loads 6 to 14 in turn, and one in ten subcarriers has load 0 */
 
 struct plan {
     uint8_t bytes[HEADEND_PLAN_BYTES_MAX + 1]; /* one more than a plan may have, so that a longer file is refused */
@@ -26,9 +27,10 @@ struct emitter {
     size_t store_len;
 };
 
-/* A symbol on the line, the load and the sign of each subcarrier, and the modulator symbol. */
+/* A symbol on the line, the load of each subcarrier in the profile and as the modulator has it, its sign, and the modulator symbol. */
 struct line {
     uint8_t symbol[HEADEND_SYMBOL_BYTES];
+    uint8_t profile[HEADEND_PROFILE_BYTES];
     uint8_t loads[HEADEND_SUBCARRIERS];
     uint8_t minus[HEADEND_SUBCARRIERS];
     float numbers[HEADEND_NUMBERS];
@@ -70,26 +72,32 @@ static void start(const struct plan *p, struct emitter *e)
     e->phase = headend_number(answer, HEADEND_PHASE);
 }
 
-/* A load for each subcarrier, and the minus sign for the pilots of those with an odd number. */
+/* A load for each subcarrier, and the minus sign for the pilots of those with an odd number. The modulator is given load 1 where the
+ * profile has load 0. */
 static void make_loads(struct line *l)
 {
     for (uint32_t k = 0; k < HEADEND_SUBCARRIERS; k++) {
-        l->loads[k] = (uint8_t)(LEAST_LOAD + k % LOADS);
+        l->profile[k] = (uint8_t)(k % 10 == 9 ? 0 : LEAST_LOAD + k % LOADS);
+        l->loads[k] = (uint8_t)headend_point_load(l->profile[k]);
         l->minus[k] = (uint8_t)(k % 2);
     }
 }
 
-/* Emits symbol t of data, each cell of which is below 2^6. */
+/* Emits symbol t, filled from a stream of its own. */
 static void emit(const struct plan *p, struct emitter *e, struct line *l, uint32_t t)
 {
-    uint8_t answer[HEADEND_ANSWER_BYTES], data[HEADEND_DATA_BYTES_MAX];
+    uint8_t answer[HEADEND_ANSWER_BYTES], data[HEADEND_DATA_BYTES_MAX], stream[HEADEND_DATA_BYTES_MAX];
     must("data_count", headend_data_count(p->bytes, p->len, e->phase, answer, sizeof answer), answer);
-    uint32_t count = headend_number(answer, HEADEND_VALUE);
-    for (uint32_t i = 0; i < count; i++)
-        headend_put_cell(data, i, (t * 4099 + i * 31) % (1u << LEAST_LOAD));
-    must("emit",
-         headend_emit(p->bytes, p->len, e->phase, e->store, e->store_len, data, (size_t)2 * count, l->symbol, sizeof l->symbol, answer,
+    size_t data_len = (size_t)2 * headend_number(answer, HEADEND_VALUE);
+    for (uint32_t i = 0; i < sizeof stream; i++)
+        stream[i] = (uint8_t)(t * 77 + i * i * 31 + i / 3);
+    must("fill",
+         headend_fill(p->bytes, p->len, l->profile, sizeof l->profile, e->phase, stream, sizeof stream, 0, data, data_len, answer,
                       sizeof answer),
+         answer);
+    must("emit",
+         headend_emit(p->bytes, p->len, l->profile, sizeof l->profile, e->phase, e->store, e->store_len, data, data_len, l->symbol,
+                      sizeof l->symbol, answer, sizeof answer),
          answer);
     e->phase = headend_number(answer, HEADEND_PHASE);
 }

@@ -12,6 +12,7 @@
 
 #include <stdio.h>
 #include <stdlib.h>
+#include <string.h>
 
 enum { TRUNKS = 16, APART = 8 };                                       /* trunk i starts at phase APART * i */
 enum { LOST_ON = 5, WRONG_ON = 10, AGAIN_ON = 12, AGAIN_AT = 99 };     /* trunks, and a phase */
@@ -21,6 +22,7 @@ struct plan {
     size_t len;
     uint32_t depth, cells;          /* M and N_I */
     uint32_t count[HEADEND_PHASES]; /* N_D at each phase, asked for once */
+    uint8_t profile[HEADEND_PROFILE_BYTES]; /* load 14 everywhere, for all trunks: a data cell is 0 to HEADEND_CELL_DATA_MAX */
     uint32_t event;                 /* the number of the symbol that is lost, or comes with wrong cells */
     uint32_t symbols;               /* symbols of data that each trunk sends */
 };
@@ -94,6 +96,7 @@ static void read_plan(struct plan *p, const char *path)
     must("judge", headend_judge(p->bytes, p->len, answer, sizeof answer), answer);
     p->cells = headend_number(answer, HEADEND_VALUE);
     p->depth = headend_depth(p->bytes);
+    memset(p->profile, 14, sizeof p->profile);
     p->event = 2 * p->depth;
     p->symbols = 4 * p->depth + 4;
     for (uint32_t phase = 0; phase < HEADEND_PHASES; phase++) {
@@ -155,8 +158,8 @@ static void send(const struct plan *p, struct trunk *t, struct numbered *f)
         for (uint32_t i = 0; i < count; i++)
             headend_put_cell(data, i, data_cell(t, t->sent, i));
         must("emit",
-             headend_emit(p->bytes, p->len, e->phase, e->store, e->store_len, data, (size_t)2 * count, f->cells,
-                          sizeof f->cells, answer, sizeof answer),
+             headend_emit(p->bytes, p->len, p->profile, sizeof p->profile, e->phase, e->store, e->store_len, data, (size_t)2 * count,
+                          f->cells, sizeof f->cells, answer, sizeof answer),
              answer);
     } else {
         must("flush",
@@ -239,8 +242,8 @@ static void compare(const struct plan *p, struct trunk *t, uint32_t number, cons
 static uint32_t receive(const struct plan *p, struct trunk *t, const struct numbered *f, uint8_t *data, uint8_t *answer)
 {
     struct end *e = &t->receiver;
-    return headend_receive(p->bytes, p->len, e->phase, e->heard, e->store, e->store_len, f->cells, sizeof f->cells, data,
-                           HEADEND_DATA_BYTES_MAX, answer, HEADEND_ANSWER_BYTES);
+    return headend_receive(p->bytes, p->len, p->profile, sizeof p->profile, e->phase, e->heard, e->store, e->store_len, f->cells,
+                           sizeof f->cells, data, HEADEND_DATA_BYTES_MAX, answer, HEADEND_ANSWER_BYTES);
 }
 
 static void hear(const struct plan *p, struct trunk *t, struct numbered *f)

@@ -2,8 +2,8 @@
  *
  * Every call returns the number of the ground that refuses it, 0 if none, and writes the rest of its answer into the first
  * HEADEND_ANSWER_BYTES bytes of `answer`, four numbers of four bytes each, high byte first (HEADEND_PLACE and so on say where).
- * A refused call writes its answer and changes no store, symbol, data or modulator symbol. Its answer gives the state back as it was
- * passed in (0 where none was passed). With a shorter `answer` a call returns 21 and writes nothing.
+ * A refused call writes its answer and changes no store, symbol, data, stream or modulator symbol. Its answer gives the state back as it
+ * was passed in (0 where none was passed). With a shorter `answer` a call returns 21 and writes nothing.
  *
  * A cell is two bytes, high byte first. A plan and each buffer pass as a pointer and a length in bytes, a modulator symbol as a pointer
  * and a number of floats. What is relied on: each pointer is good for the length passed with it (with length 0 it may be NULL), and a
@@ -24,9 +24,9 @@ extern "C" {
 
 /* Grows by one whenever a call takes, answers or writes something else for the same bytes, or a name below has another value or goes.
  * A name, a call or a helper that is added does not count. 1 was the interface as it came, 2 counts the widths, 3 keeps one cell in a
- * store for each symbol of delay and has no row; headers from before this name are of 1 or of 2. A header of 3 that has HEADEND_NUMBERS
- * has headend_modulate, and one that has HEADEND_RECORD_NUMBER_MAX has headend_try. */
-#define HEADEND_VERSION 3
+ * store for each symbol of delay and has no row, 4 gives headend_emit and headend_receive a load profile after the plan, and has
+ * headend_fill and headend_unfill. Headers from before this name are of 1 or of 2. */
+#define HEADEND_VERSION 4
 
 /* The number that a call returns is not to be ignored: gcc and clang warn. */
 #ifdef __GNUC__
@@ -40,7 +40,7 @@ extern "C" {
 #define HEADEND_PLACE 0  /* the place of a refusal */
 #define HEADEND_PHASE 4  /* the state of the next step: phase, */
 #define HEADEND_HEARD 8  /* and of a receiver the symbols heard, up to M - 1 */
-#define HEADEND_VALUE 12 /* N_I, N_D, the number of data cells handed out, a role, or the subcarrier of a refusal by 22 or 23 */
+#define HEADEND_VALUE 12 /* N_I, N_D, the number of data cells handed out or of bits, a role, or the subcarrier of a refusal by 22 or 23 */
 
 /* The roles of a subcarrier, in the order in which the first that applies is taken. */
 #define HEADEND_EXCLUDED 1
@@ -49,7 +49,7 @@ extern "C" {
 #define HEADEND_SCATTERED 4
 #define HEADEND_DATA 5
 
-/* What a cell may hold: data from 0 to HEADEND_CELL_DATA_MAX, or a mark. */
+/* What a cell may hold: data from 0 to the limit of its subcarrier's load, with load 14 HEADEND_CELL_DATA_MAX, or a mark. */
 #define HEADEND_CELL_DATA_MAX 16383u
 #define HEADEND_CELL_SCATTERED 0x8000u  /* the place of a scattered pilot */
 #define HEADEND_CELL_FILLER 0x8001u     /* no data: of a flush or a fresh start */
@@ -64,6 +64,7 @@ extern "C" {
 #define HEADEND_SYMBOL_BYTES 8192u   /* a symbol: 4,096 cells */
 #define HEADEND_NUMBERS 8192u        /* a modulator symbol: two floats for each subcarrier */
 #define HEADEND_DATA_BYTES_MAX 7490u /* more data cells than N_I no symbol has */
+#define HEADEND_PROFILE_BYTES 4096u  /* a load profile: one load for each subcarrier, 0, 4 or 6 to 14 */
 #define HEADEND_STACK_BYTES 131072u  /* some 65,000 were measured */
 
 /* The largest number that a record can hold; headend_try refuses a larger one by 4. */
@@ -77,10 +78,11 @@ extern "C" {
 #define HEADEND_RECEIVER_STORE_BYTES_MAX 116126u
 
 /* What a call returns: 0, or the ground that refuses it, in the words of the rules, with its place in brackets, 0 where none is named.
- * A call tries 21, then 1 to 15, along the chain 2 to 5 for each record before the next is read, then those of 16 to 20 that speak of
- * what it is given, and refuses by the first that holds. headend_try tries 21, then 1 to 5 of the plan, then 1 to 15 of its copy with one
- * more range. headend_modulate, which is given no plan, tries 21, then 17, then 22 and 23 of each subcarrier before the next. 9 to 12
- * count: the width of a band a to b is b - a + 1, the span is the highest active subcarrier less the lowest, plus one. */
+ * A call tries 21, then 1 to 15, along the chain 2 to 5 for each record before the next is read, then 25, then those of 16 to 20 that speak
+ * of what it is given, and refuses by the first that holds. headend_fill tries 21, 1 to 15, 25, 16, 18 and 26, headend_unfill after them
+ * 19; neither tries 17. headend_try tries 21, then 1 to 5 of the plan, then 1 to 15 of its copy with one more range. headend_modulate,
+ * which is given no plan, tries 21, then 17, then 22 and 23 of each subcarrier before the next. 9 to 12 count: the width of a band a to b
+ * is b - a + 1, the span is the highest active subcarrier less the lowest, plus one. */
 #define HEADEND_ACCEPTED 0u
 /* The plan's length is below 8, above 4,096 or not a multiple of 8. */
 #define HEADEND_REFUSED_PLAN_LENGTH 1u
@@ -115,14 +117,15 @@ extern "C" {
 /* A phase, heard or subcarrier given is out of its range. */
 #define HEADEND_REFUSED_OUT_OF_RANGE 16u
 /* An emitter's store is shorter than the sum of p mod M over the N_I cells p, a receiver's than that of M - 1 - (p mod M), a symbol is
- * not 4,096 cells, there are not 4,096 loads, 4,096 signs or 8,192 numbers, or, where the answer would not be warming, the data buffer is
- * shorter than the count. */
+ * not 4,096 cells, a modulate is not given 4,096 loads, 4,096 signs and 8,192 numbers, or, where the answer would not be warming, the data
+ * buffer is shorter than the count. */
 #define HEADEND_REFUSED_BUFFER_LENGTH 17u
-/* The emitter is given other than N_D data cells. */
+/* Other than N_D data cells are given: to the emitter, to be filled or for the way back. */
 #define HEADEND_REFUSED_DATA_COUNT 18u
-/* A data cell exceeds 16383 (its position, lowest). */
+/* A data cell exceeds the limit of the load of the subcarrier it is emitted on, 2 to the load less 1, with load 0 it is 1 (its position,
+ * lowest). */
 #define HEADEND_REFUSED_DATA_CELL 19u
-/* An arriving cell isn't its role's mark, or for a data role neither data nor filler (subcarrier, lowest). */
+/* An arriving cell isn't its role's mark, or for a data role neither data up to the limit of its load nor filler (subcarrier, lowest). */
 #define HEADEND_REFUSED_ARRIVING_CELL 20u
 /* A cell buffer of odd length or too short an answer buffer. */
 #define HEADEND_REFUSED_BUFFER_BYTES 21u
@@ -130,6 +133,11 @@ extern "C" {
 #define HEADEND_REFUSED_LOAD 22u
 /* An unmarked cell is not below 2 to the load (its value, of the lowest subcarrier that 22 or 23 refuses). */
 #define HEADEND_REFUSED_VALUE 23u
+/* A profile is not 4,096 bytes, or else a load of it is not listed: 0, 4 and 6 to 14 are (0, or else the lowest such subcarrier). */
+#define HEADEND_REFUSED_PROFILE 25u
+/* Fewer bits remain in the stream from the start on than the loads of the symbol's data cells add up to; a start past the end leaves
+ * none. */
+#define HEADEND_REFUSED_STREAM 26u
 
 /* Judges a plan. Value: N_I. Refuses by 1 to 15 and 21. */
 HEADEND_NOT_IGNORED
@@ -166,30 +174,50 @@ HEADEND_NOT_IGNORED
 uint32_t headend_fresh_receiver(const uint8_t *plan, size_t plan_len, uint32_t phase, uint8_t *store, size_t store_len,
                                 uint8_t *answer, size_t answer_len);
 
-/* Emits one symbol: takes N_D data cells (each 0 to 16383), writes the symbol on the line, and the store. Phase: the next state.
- * `data` is the whole input symbol and `symbol` exactly 8,192 bytes. Refuses by 1 to 19 and 21. */
+/* Emits one symbol: takes N_D data cells, writes the symbol on the line, and the store. Phase: the next state. `profile` has 4,096 bytes,
+ * one load for each subcarrier, 0, 4 or 6 to 14, excluded ones too. A data cell is below 2 to the load of the subcarrier it is emitted on,
+ * with load 0 it is 0 or 1. `data` is the whole input symbol and `symbol` exactly 8,192 bytes. Refuses by 1 to 19, 21 and 25. */
 HEADEND_NOT_IGNORED
-uint32_t headend_emit(const uint8_t *plan, size_t plan_len, uint32_t phase, uint8_t *store, size_t store_len, const uint8_t *data,
-                      size_t data_len, uint8_t *symbol, size_t symbol_len, uint8_t *answer, size_t answer_len);
+uint32_t headend_emit(const uint8_t *plan, size_t plan_len, const uint8_t *profile, size_t profile_len, uint32_t phase, uint8_t *store,
+                      size_t store_len, const uint8_t *data, size_t data_len, uint8_t *symbol, size_t symbol_len, uint8_t *answer,
+                      size_t answer_len);
 
-/* Emits one symbol of filler. M - 1 flushes after the last data push all of it out. Refuses by 1 to 17 and 21. */
+/* Emits one symbol of filler; it is given no profile. M - 1 flushes after the last data push all of it out. Refuses by 1 to 17 and 21. */
 HEADEND_NOT_IGNORED
 uint32_t headend_flush(const uint8_t *plan, size_t plan_len, uint32_t phase, uint8_t *store, size_t store_len, uint8_t *symbol,
                        size_t symbol_len, uint8_t *answer, size_t answer_len);
 
-/* Receives one symbol. Value: how many cells of data (or filler) were written to the start of `data`, 0 only while warming, the first
- * M - 1 symbols after a fresh start; bytes past them are untouched. Phase and heard: the next state. Refuses by 1 to 17, 20 and 21.
- * A symbol refused by 20 counts as lost unless it is mended and received after all (docs/C-HOST.md, "After a refusal"). */
+/* Receives one symbol, under the profile with which it was emitted. Value: how many cells of data (or filler) were written to the start
+ * of `data`, 0 only while warming, the first M - 1 symbols after a fresh start; bytes past them are untouched. Phase and heard: the next
+ * state. Refuses by 1 to 17, 20, 21 and 25. A symbol refused by 20 counts as lost unless it is mended and received after all
+ * (docs/C-HOST.md, "After a refusal"). */
 HEADEND_NOT_IGNORED
-uint32_t headend_receive(const uint8_t *plan, size_t plan_len, uint32_t phase, uint32_t heard, uint8_t *store, size_t store_len,
-                         const uint8_t *symbol, size_t symbol_len, uint8_t *data, size_t data_len, uint8_t *answer,
-                         size_t answer_len);
+uint32_t headend_receive(const uint8_t *plan, size_t plan_len, const uint8_t *profile, size_t profile_len, uint32_t phase, uint32_t heard,
+                         uint8_t *store, size_t store_len, const uint8_t *symbol, size_t symbol_len, uint8_t *data, size_t data_len,
+                         uint8_t *answer, size_t answer_len);
+
+/* Fills the data of an input symbol at a phase, exactly N_D cells, from the bits of a stream, from bit `start` on: each data cell takes as
+ * many bits as its load, the first the least significant of the cell; bit 8i + o of the stream is bit o of byte i, o = 0 the least
+ * significant. A cell with load 0 takes none and is 0. Value: how many bits the symbol takes; the next one starts at `start` plus that.
+ * The stream is no cell buffer and has any length; any start may be passed. Refuses by 1 to 16, 18, 21, 25 and 26. */
+HEADEND_NOT_IGNORED
+uint32_t headend_fill(const uint8_t *plan, size_t plan_len, const uint8_t *profile, size_t profile_len, uint32_t phase,
+                      const uint8_t *stream, size_t stream_len, size_t start, uint8_t *data, size_t data_len, uint8_t *answer,
+                      size_t answer_len);
+
+/* The way back: writes the bits of the N_D data cells of an input symbol at a phase into a stream, from bit `start` on, and leaves its
+ * other bits as they are. A cell with load 0 gives none. Value: how many bits were written. Data that was handed out for a flush, all
+ * filler, is refused by 19 at 0 (where enough bits remain). Refuses by 1 to 16, 18, 19, 21, 25 and 26. */
+HEADEND_NOT_IGNORED
+uint32_t headend_unfill(const uint8_t *plan, size_t plan_len, const uint8_t *profile, size_t profile_len, uint32_t phase,
+                        const uint8_t *data, size_t data_len, size_t start, uint8_t *stream, size_t stream_len, uint8_t *answer,
+                        size_t answer_len);
 
 /* Fills a modulator symbol from a symbol on the line, as headend_emit or headend_flush leaves it: two floats for each subcarrier, first
- * coordinate first. `loads` has a byte for each subcarrier, 1, 2, 4 or 6 to 14, pilots and silent ones too; `minus` a byte for the sign of
- * each one's pilot, 0 for plus, any other for minus. `numbers_count` counts floats. Filler and excluded give 0 and 0, a pilot 2 or -2 and
- * 0, data the scaled point of its value; the two floats of a PLC subcarrier are left as they are. Value: at a refusal by 22 or 23 the
- * subcarrier. Refuses by 17 and 21 to 23. docs/MODULATOR.md tells more. */
+ * coordinate first. `loads` has a byte for each subcarrier, 1, 2, 4 or 6 to 14, pilots and silent ones too (headend_point_load makes one
+ * of a profile's load); `minus` a byte for the sign of each one's pilot, 0 for plus, any other for minus. `numbers_count` counts floats.
+ * Filler and excluded give 0 and 0, a pilot 2 or -2 and 0, data the scaled point of its value; the two floats of a PLC subcarrier are left
+ * as they are. Value: at a refusal by 22 or 23 the subcarrier. Refuses by 17 and 21 to 23. docs/MODULATOR.md tells more. */
 HEADEND_NOT_IGNORED
 uint32_t headend_modulate(const uint8_t *symbol, size_t symbol_len, const uint8_t *loads, size_t loads_len, const uint8_t *minus,
                           size_t minus_len, float *numbers, size_t numbers_count, uint8_t *answer, size_t answer_len);
@@ -225,6 +253,12 @@ static inline uint32_t headend_lowest_plc(const uint8_t *plan)
 static inline uint32_t headend_depth(const uint8_t *plan)
 {
     return headend_cell(plan, 3);
+}
+
+/* The load with which the modulator is given a cell whose load in the profile is this: a cell with load 0 is given with load 1. */
+static inline uint32_t headend_point_load(uint32_t load)
+{
+    return load == 0u ? 1u : load;
 }
 
 /* The bytes that an emitter's store has at least, of an accepted plan with N_I `cells` and depth M: p mod M cells for each cell p. */

@@ -18,14 +18,16 @@ from pathlib import Path
 sys.dont_write_bytecode = True
 
 import plans
-from host import ANSWER, SYMBOL, Cases, Link, some_bytes, some_line, to_bytes, with_line
+from emitter import FULL
+from host import ANSWER, SYMBOL, Cases, Link, Loaded, some_bytes, some_line, to_bytes, with_cell, with_line, with_load
+from loads import some_profile
 from stored import ROOT
 
 
 # --- wrong expectations ----------------------------------------------------
 
 def few(cases):
-    """Fifteen calls."""
+    """Twenty-two calls."""
     plan, rng = plans.near_a(M=2), random.Random(6)
     cases.name('few calls')
     cases.call('judge', plan=b'')                                       # 0
@@ -44,6 +46,15 @@ def few(cases):
     cases.call('try', 850, 853, plan=plan, answer=bytes(32))            # 12
     cases.call('try', 850, 854, plan=plan, answer=bytes(ANSWER))        # 13
     cases.call('try', 850, 853, plan=plan, answer=bytes(ANSWER - 1))    # 14
+    given = Loaded(cases, plan, 127, with_load(some_profile(rng), 800, 6), 8, start=3)      # the first cell goes to 800
+    exact, spare = {'answer': bytes(ANSWER)}, given.good['stream'] + b'\x5A'
+    given.call('fill', (0, given.need), stream=spare, **exact)              # 15
+    given.call('fill', (26, 0), stream=spare[:-2], **exact)                 # 16
+    given.call('fill', (21,), answer=bytes(ANSWER - 1))                     # 17
+    given.call('unfill', (0, given.need), stream=spare, **exact)            # 18
+    given.call('unfill', (19, 7), data=with_cell(given.good['data'], 7, 65535), **exact)    # 19
+    given.call('unfill', (21,), answer=bytes(ANSWER - 1))                   # 20
+    given.call('emit', (25, 9), profile=with_load(FULL, 9, 5), **exact)     # 21
     return cases
 
 
@@ -72,7 +83,23 @@ BENT = ((0, None, 0, 'a refusal by another number'), (1, None, 0, 'a refusal of 
         (12, 'answer', 16, 'a byte past the answer'), (13, 'answer', 3, 'another place in a copy'),
         (13, 'answer', 15, 'a value of a refused copy'), (13, 'answer', 7, 'an end of the range in the answer'),
         (14, None, 0, 'a short answer not refused'), (14, 'answer', 0, 'a short answer written'),
-        (12, 'plan', 19, 'a plan whose last chain record was changed'), (13, 'plan', -1, 'a plan whose last range was changed'))
+        (12, 'plan', 19, 'a plan whose last chain record was changed'), (13, 'plan', -1, 'a plan whose last range was changed'),
+        (15, None, 0, 'a refusal of a good filling'), (15, 'answer', 15, 'another number of bits'),
+        (15, 'answer', 3, 'a place without a refusal'), (15, 'answer', 7, 'a phase of a filling'),
+        (15, 'data', 1, 'another first cell filled'), (15, 'data', -1, 'another last cell filled'),
+        (15, 'stream', 0, 'a stream changed by filling'), (15, 'profile', 9, 'a changed profile'), (15, 'plan', 3, 'a changed plan'),
+        (16, None, 0, 'a filling refused by another number'), (16, 'data', 1, 'a cell of a refused filling'),
+        (16, 'answer', 15, 'bits of a refused filling'), (17, None, 0, 'a short answer of a filling not refused'),
+        (17, 'answer', 0, 'a short answer of a filling written'), (17, 'data', 0, 'a cell filled beside a short answer'),
+        (18, None, 0, 'a refusal of a good way back'), (18, 'answer', 14, 'another number of bits back'),
+        (18, 'stream', 0, 'a bit before the start'), (18, 'stream', 1, 'another bit back'), (18, 'stream', -1, 'a bit behind the symbol'),
+        (18, 'data', 3, 'data changed by the way back'), (18, 'profile', -1, 'a profile changed by the way back'),
+        (19, None, 0, 'a way back refused by another number'), (19, 'answer', 3, 'another place of a wrong cell'),
+        (19, 'stream', 1, 'a bit of a refused way back'), (20, None, 0, 'a short answer of a way back not refused'),
+        (20, 'answer', 0, 'a short answer of a way back written'), (20, 'stream', 1, 'a bit beside a short answer'),
+        (21, None, 0, 'a profile refused by another number'), (21, 'answer', 3, 'another place of a wrong load'),
+        (21, 'answer', 7, 'another phase after a wrong load'), (21, 'store', 5, 'a store written after a wrong load'),
+        (21, 'symbol', 5, 'a symbol written after a wrong load'))
 
 
 def bend_of(call, key, at):
@@ -80,7 +107,7 @@ def bend_of(call, key, at):
         if calls != call:
             return returned, after
         if key is None:
-            return (returned + 1) % 24, after
+            return (returned + 1) % 27, after
         data = bytearray(after[key])
         data[at] ^= 1
         return returned, {**after, key: bytes(data)}
@@ -105,6 +132,21 @@ def write_cases(folder):
 
 # --- wrong programs --------------------------------------------------------
 
+# What stands in bench/plain.c: how unfill tries the cells, and how fill and unfill begin, up to the lengths that 21 judges.
+CELLS_TRIED = """\
+    if (r.number == 0)
+        r = check_cells(loads, data, data_len / 2);
+    if (r.number != 0)
+        return say"""
+FILL_BEGINS, UNFILL_BEGINS = (
+    buffer + """_len, uint8_t *answer,
+%ssize_t answer_len)
+{
+    uint8_t loads[SUBCARRIERS];
+    uint32_t bits;
+    if (wrong_buffers""" % (' ' * indent)
+    for buffer, indent in (('uint8_t *data, size_t data', 20), ('uint8_t *stream, size_t stream', 22)))
+
 # (what stands once in bench/plain.c, what stands there instead)
 WRONG = (
     # cells and the answer
@@ -124,7 +166,9 @@ WRONG = (
     # NULL for an empty buffer, not expected
     ('    if (length < RECORD ||', '    if (plan == NULL)\n        return refuse(2, 0);\n    if (length < RECORD ||'),
     ('int warming = heard < ', 'int warming = data != NULL && heard < '),
-    ('    if (data_len / 2 != (size_t)data_count(p, phase))', '    if (data != NULL && data_len / 2 != (size_t)data_count(p, phase))'),
+    ('return data_len / 2 != (size_t)data_count(p, phase) ?', 'return data_len != 0 && data_len / 2 != (size_t)data_count(p, phase) ?'),
+    ('    if (length != SUBCARRIERS)\n', '    if (profile == NULL)\n        return refuse(2, 0);\n    if (length != SUBCARRIERS)\n'),
+    ('    *bits = 0;\n', '    *bits = stream_len == 0;\n'),
     # grounds
     ('|| c % 2 != 0', ''),
     ('|| s.heard >= (uint32_t)p->m', ''),
@@ -135,12 +179,15 @@ WRONG = (
     ('if (!warming && data_len / 2 <', 'if (!warming && data_len / 2 + 1 <'),
     ('if (!warming && data_len / 2 <', 'if (data_len / 2 <'),
     ('for (int k = 0; k < SUBCARRIERS; k++) {\n        int want', 'for (int k = 1; k < SUBCARRIERS; k++) {\n        int want'),
-    ('if (get(data, i) > LAST_DATA)', 'if (get(data, i) > LAST_DATA + 1)'),
+    ('if (get(data, i) > limit(loads[i]))', 'if (get(data, i) > limit(loads[i]) + 1)'),
+    ('if (get(data, i) > limit(loads[i]))', 'if (get(data, i) >= limit(loads[i]))'),
+    ('if (get(data, i) > limit(loads[i]))', 'if (get(data, i) > limit(14))'),
+    ('return refuse(19, (uint32_t)i);', 'return refuse(19, get(data, i));'),
     ('&& cell != FILLER_MARK', ''),
     ('return b - a + 1;', 'return b - a;'),
     # a refused step that writes
-    ('r = check_data(&p, (int)phase, data, data_len);',
-     '{ r = check_data(&p, (int)phase, data, data_len); if (r.number == 19) move(store, 0, 1, 0); }'),
+    ('        r = check_cells(loads, data, data_len / 2);\n    }\n',
+     '        r = check_cells(loads, data, data_len / 2);\n        if (r.number == 19)\n            move(store, 0, 1, 0);\n    }\n'),
     # the shortcuts that the paper names
     ('p->carrier[cell], (phase + cell % p->m) % PHASES', 'p->carrier[cell], phase'),
     ('(k - (p->l + 8) - phase)', '(k - phase)'),
@@ -195,6 +242,114 @@ WRONG = (
      'struct refusal r = judge_with(&p, plan, plan_len, first, last);\n    if (r.number == 0)\n        judge(&p, plan, plan_len);'),
     ('struct refusal r = judge_with(&p, plan, plan_len, first, last);\n    return say(answer, r, NO_STATE,',
      'struct refusal r = judge_with(&p, plan, plan_len, first, last);\n    return say(answer, r, (struct state){first, last},'),
+    # the profile: its length, which loads are listed, which is named, and when it is tried
+    ('if (length != SUBCARRIERS)', 'if (length < SUBCARRIERS)'),
+    ('if (length != SUBCARRIERS)', 'if (length / 2 != SUBCARRIERS / 2)'),
+    ('profile[k] != 0 && profile[k] != 4', 'profile[k] != 4'),
+    ('profile[k] != 0 && profile[k] != 4', 'profile[k] != 0'),
+    ('profile[k] != 0 && profile[k] != 4', 'profile[k] > 2 && profile[k] != 4'),
+    ('profile[k] < 6 || profile[k] > 14', 'profile[k] < 5 || profile[k] > 14'),
+    ('profile[k] < 6 || profile[k] > 14', 'profile[k] < 7 || profile[k] > 14'),
+    ('profile[k] < 6 || profile[k] > 14', 'profile[k] < 6 || profile[k] > 13'),
+    ('profile[k] < 6 || profile[k] > 14', 'profile[k] < 6 || profile[k] > 15'),
+    ('profile[k] < 6 || profile[k] > 14', 'profile[k] < 6 || profile[k] % 128 > 14'),
+    ('for (int k = 0; k < SUBCARRIERS; k++)\n        if (profile[k]', 'for (int k = 1; k < SUBCARRIERS; k++)\n        if (profile[k]'),
+    ('for (int k = 0; k < SUBCARRIERS; k++)\n        if (profile[k]', 'for (int k = 0; k < SUBCARRIERS - 1; k++)\n        if (profile[k]'),
+    ('for (int k = 0; k < SUBCARRIERS; k++)\n        if (profile[k]', 'for (int k = 148; k < 3949; k++)\n        if (profile[k]'),
+    ('for (int k = 0; k < SUBCARRIERS; k++)\n        if (profile[k]', 'for (int k = SUBCARRIERS; k-- > 0;)\n        if (profile[k]'),
+    ('return refuse(25, (uint32_t)k);', 'return refuse(25, 0);'),
+    ('return refuse(25, (uint32_t)k);', 'return refuse(25, profile[k]);'),
+    ('        return refuse(25, 0);\n', '        return refuse(25, (uint32_t)length);\n'),
+    ('        return refuse(25, 0);\n', '        return refuse(17, 0);\n'),
+    ('return r.number == 0 ? check_profile(profile, profile_len) : r;',
+     'struct refusal q = check_profile(profile, profile_len);\n    return q.number == 0 || r.number < 15 ? r : q;'),
+    ('return r.number == 0 ? check_profile(profile, profile_len) : r;',
+     'struct refusal q = check_profile(profile, profile_len);\n    return q.number == 0 ? r : q;'),
+    ('    r = begin(&p, r, s, emitter_places, store_len, symbol_len);\n    if (r.number == 0)\n        r = check_count',
+     '    if (wrong_state(&p, s))\n        r = refuse(16, 0);\n    r = begin(&p, r, s, emitter_places, store_len, symbol_len);\n'
+     '    if (r.number == 0)\n        r = check_count'),
+    ('    r = begin(&p, r, s, receiver_places, store_len, symbol_len);',
+     '    if (r.number == 25 && symbol_len != 2 * SUBCARRIERS)\n        r = refuse(17, 0);\n'
+     '    r = begin(&p, r, s, receiver_places, store_len, symbol_len);'),
+    ('if (wrong_buffers(store_len, data_len, symbol_len, answer_len))',
+     'if (wrong_buffers(store_len, data_len, symbol_len | profile_len, answer_len))'),
+    ('if (wrong_buffers(store_len, symbol_len, data_len, answer_len))',
+     'if (wrong_buffers(store_len, symbol_len, data_len | profile_len, answer_len))'),
+    # limits, and the load of a cell
+    ('return load == 0 ? 1 : (1u << load) - 1;', 'return (1u << load) - 1;'),
+    ('return load == 0 ? 1 : (1u << load) - 1;', 'return load == 0 ? 1 : 1u << load;'),
+    ('return load == 0 ? 1 : (1u << load) - 1;', 'return load == 0 ? 16383 : (1u << load) - 1;'),
+    ('return load == 0 ? 1 : (1u << load) - 1;', 'return load <= 4 ? 15 : (1u << load) - 1;'),
+    ('*loads++ = profile[p->carrier[cell]];', '*loads++ = profile[cell];'),
+    ('*loads++ = profile[p->carrier[cell]];', '*loads++ = profile[p->subcarrier[cell]];'),
+    ('*loads++ = profile[p->carrier[cell]];', '*loads++ = profile[p->carrier[cell] + 1];'),
+    ('        if (!is_placeholder(p, cell, phase))\n            *loads++', '        *loads++'),
+    ('        if (!is_placeholder(p, cell, phase))\n            *loads++',
+     '        if (!is_scattered(p, p->carrier[cell], phase))\n            *loads++'),
+    ('cell > limit(profile[k]) &&', 'cell > limit(14) &&'),
+    ('cell > limit(profile[k]) &&', 'cell > limit(profile[k]) + 1 &&'),
+    ('cell > limit(profile[k]) &&', 'cell >= limit(profile[k]) &&'),
+    # bits: from the top of a byte or of a cell, a start that is lost, load 0
+    ('return stream[i / 8] >> i % 8 & 1;', 'return stream[i / 8] >> (7 - i % 8) & 1;'),
+    ('(uint8_t)((stream[i / 8] & ~(1u << i % 8)) | bit << i % 8)', '(uint8_t)(stream[i / 8] | bit << i % 8)'),
+    ('(uint8_t)((stream[i / 8] & ~(1u << i % 8)) | bit << i % 8)', '(uint8_t)((stream[i / 8] & ((1u << i % 8) - 1)) | bit << i % 8)'),
+    ('(uint8_t)((stream[i / 8] & ~(1u << i % 8)) | bit << i % 8)',
+     '(uint8_t)((stream[i / 8] & ~(128u >> i % 8)) | bit << (7 - i % 8))'),
+    ('cell |= get_bit(stream, start + (size_t)i) << i;', 'cell |= get_bit(stream, start + (size_t)i) << (load - 1 - i);'),
+    ('cell |= get_bit(stream, start + (size_t)i) << i;', 'cell |= get_bit(stream, start / 8 * 8 + (size_t)i) << i;'),
+    ('unsigned cell = 0;\n    for (int i = 0; i < load', 'unsigned cell = load == 0;\n    for (int i = 0; i < load'),
+    ('        start += loads[i];\n', '        start += 14;\n'),
+    ('        start += loads[i];\n', '        start += loads[i] > 0 ? loads[i] : 1;\n'),
+    ('put_bit(stream, start++, get(data, i) >> bit & 1);', 'put_bit(stream, start++, get(data, i) >> (loads[i] - 1 - bit) & 1);'),
+    ('for (int bit = 0; bit < loads[i]; bit++)', 'for (int bit = 0; bit < (loads[i] > 0 ? loads[i] : 1); bit++)'),
+    ('for (int bit = 0; bit < loads[i]; bit++)', 'for (int bit = 0; bit < loads[i] - (i + 1 == data_len / 2); bit++)'),
+    # 26 and its order
+    ('        *bits += loads[i];\n', '        *bits += 14;\n'),
+    ('    if (*bits == 0)\n        return FINE;\n', ''),
+    ('    if (*bits == 0)\n        return FINE;\n', '    if (*bits == 0 && whole <= stream_len)\n        return FINE;\n'),
+    ('    if (whole >= stream_len)\n        return refuse(26, 0);\n', ''),
+    ('(*bits + odd + 7) / 8 > stream_len', '(*bits + 7) / 8 > stream_len'),
+    ('(*bits + odd + 7) / 8 > stream_len', '(*bits + odd) / 8 > stream_len'),
+    ('(*bits + odd + 7) / 8 > stream_len', '(*bits + odd + 7) / 8 >= stream_len'),
+    ('size_t whole = start / 8,', 'size_t whole = (uint32_t)start / 8,'),
+    ('    if (whole >= stream_len)\n        return refuse(26, 0);\n    return (*bits + odd + 7) / 8 > stream_len - whole ?',
+     '    return start + *bits > 8 * stream_len ?'),
+    ('refuse(26, 0) : FINE;', 'refuse(26, *bits) : FINE;'),
+    ('refuse(26, 0) : FINE;', 'refuse(17, 0) : FINE;'),
+    ('    r = check_count(&p, (int)phase, data_len);\n    if (r.number != 0)\n        return r;\n'
+     '    find_loads(&p, profile, (int)phase, loads);\n',
+     '    find_loads(&p, profile, (int)phase, loads);\n'
+     '    r = check_bits(loads, (size_t)data_count(&p, (int)phase), stream_len, start, bits);\n'
+     '    if (r.number == 0)\n        r = check_count(&p, (int)phase, data_len);\n    if (r.number != 0)\n        return r;\n'),
+    ('refuse(18, 0) : FINE;', 'refuse(17, 0) : FINE;'),
+    ('    if (r.number == 0 && phase >= PHASES)\n        r = refuse(16, 0);\n    if (r.number != 0)\n        return r;\n',
+     '    if (r.number != 0)\n        return r;\n'),
+    # what fill and unfill try of the cells
+    (CELLS_TRIED, '    if (r.number != 0)\n        return say'),
+    (CELLS_TRIED,
+     '    if (r.number == 0 || r.number == 26) {\n        struct refusal q = check_cells(loads, data, data_len / 2);\n'
+     '        r = q.number == 0 ? r : q;\n    }\n    if (r.number != 0)\n        return say'),
+    ('    for (size_t i = 0; i < data_len / 2; i++) {\n        put(data, i,',
+     '    r = check_cells(loads, data, data_len / 2);\n    if (r.number != 0)\n        return say(answer, r, NO_STATE, 0);\n'
+     '    for (size_t i = 0; i < data_len / 2; i++) {\n        put(data, i,'),
+    # a refused one that writes, and the answer
+    ('    if (r.number != 0)\n        return say(answer, r, NO_STATE, 0);\n'
+     '    for (size_t i = 0; i < data_len / 2; i++) {\n        put(data, i,',
+     '    if (r.number == 26)\n        put(data, 0, 0);\n    if (r.number != 0)\n        return say(answer, r, NO_STATE, 0);\n'
+     '    for (size_t i = 0; i < data_len / 2; i++) {\n        put(data, i,'),
+    (CELLS_TRIED,
+     '    if (r.number == 0) {\n        put_bit(stream, start, bits > 0 ? get(data, 0) & 1 : get_bit(stream, start));\n'
+     '        r = check_cells(loads, data, data_len / 2);\n    }\n    if (r.number != 0)\n        return say'),
+    ('        start += loads[i];\n    }\n    return say(answer, r, NO_STATE, bits);',
+     '        start += loads[i];\n    }\n    return say(answer, r, NO_STATE, (uint32_t)start);'),
+    ('        start += loads[i];\n    }\n    return say(answer, r, NO_STATE, bits);',
+     '        start += loads[i];\n    }\n    return say(answer, r, (struct state){phase, 0}, bits);'),
+    ('>> bit & 1);\n    return say(answer, r, NO_STATE, bits);',
+     '>> bit & 1);\n    return say(answer, r, NO_STATE, (uint32_t)(data_len / 2));'),
+    (FILL_BEGINS + '(data_len, 0, 0, answer_len))',
+     FILL_BEGINS + '(0, 0, 0, answer_len))'),
+    (UNFILL_BEGINS + '(data_len, 0, 0, answer_len))',
+     UNFILL_BEGINS + '(data_len, stream_len, 0, answer_len))'),
     # the modulator: its lengths, grounds and answer
     ('if (wrong_buffers(symbol_len, 0, 0, answer_len))', 'if (wrong_buffers(0, 0, 0, answer_len))'),
     ('if (symbol_len != 2 * SUBCARRIERS || loads_len', 'if (symbol_len < 2 * SUBCARRIERS || loads_len'),
@@ -212,7 +367,7 @@ WRONG = (
     ('cell >= SCATTERED_MARK && cell <= PLC_MARK', 'cell >= SCATTERED_MARK && cell <= PLC_MARK + 1'),
     ('cell >= SCATTERED_MARK && cell <= PLC_MARK', 'cell > SCATTERED_MARK && cell <= PLC_MARK'),
     ('return cell >= 1u << load ?', 'return cell > 1u << load ?'),
-    ('return cell >= 1u << load ?', 'return cell > LAST_DATA ?'),
+    ('return cell >= 1u << load ?', 'return cell > 16383 ?'),
     ('refuse(22, (uint32_t)load)', 'refuse(22, cell)'),
     ('refuse(23, cell)', 'refuse(23, (uint32_t)load)'),
     ('say(answer, r, NO_STATE, (uint32_t)k)', 'say(answer, r, NO_STATE, 0)'),
@@ -246,7 +401,11 @@ WRONG = (
 
 # (what stands once in the header, what stands there instead): names, the answer's places, helpers
 WRONG_HEADER = (
-    ('VERSION 3', 'VERSION 2'), ('CELL_FILLER 0x8001u', 'CELL_FILLER 0x8002u'), ('CELL_DATA_MAX 16383u', 'CELL_DATA_MAX 16384u'),
+    ('VERSION 4', 'VERSION 3'), ('REFUSED_PROFILE 25u', 'REFUSED_PROFILE 24u'), ('REFUSED_STREAM 26u', 'REFUSED_STREAM 25u'),
+    ('PROFILE_BYTES 4096u', 'PROFILE_BYTES 8192u'), ('return load == 0u ? 1u : load;', 'return load;'),
+    ('return load == 0u ? 1u : load;', 'return load <= 1u ? 0u : load;'),
+    ('return load == 0u ? 1u : load;', 'return load == 0u ? 2u : load;'),
+    ('CELL_FILLER 0x8001u', 'CELL_FILLER 0x8002u'), ('CELL_DATA_MAX 16383u', 'CELL_DATA_MAX 16384u'),
     ('HEADEND_HEARD 8 ', 'HEADEND_HEARD 12 '), ('HEADEND_VALUE 12', 'HEADEND_VALUE 16'), ('HEADEND_SCATTERED 4', 'HEADEND_SCATTERED 5'),
     ('HEADEND_REFUSED_RECORD_KIND 2u', 'HEADEND_REFUSED_RECORD_KIND 3u'), ('BUFFER_BYTES 21u', 'BUFFER_BYTES 20u'),
     ('REFUSED_LOAD 22u', 'REFUSED_LOAD 23u'), ('REFUSED_VALUE 23u', 'REFUSED_VALUE 22u'), ('NUMBERS 8192u', 'NUMBERS 4096u'),

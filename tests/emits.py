@@ -408,6 +408,11 @@ def limit_mutants(model=Total):
         value = getattr(EmitterLimits(), name)
         for other in (value - 1, value + 1):
             yield 'limit %s %d -> %d' % (name, value, other), limited(model, **{name: other})
+    for other in (-1, 1):
+        class Other(model):
+            def limit(self, load, other=other):
+                return model.limit(self, load) + other
+        yield 'limit of load 14 %d -> %d' % (16383, 16383 + other), Other()
 
 
 def scattered_at(self, at, phase):
@@ -899,10 +904,11 @@ def state_mutants():
 
 
 def ground_mutants():
-    for order in permutations((16, 17, 18, 19)):
-        if order != Emitter.step_order:
-            yield 'order: %d, %d, %d, %d' % order, bent(step_order=order)
-    for ground in Emitter.step_order:
+    grounds = (16, 17, 18, 19)      # 25 is tried before them; the profile is 14 everywhere
+    for order in permutations(grounds):
+        if order != grounds:
+            yield 'order: %d, %d, %d, %d' % order, bent(step_order=(25, *order))
+    for ground in grounds:
         name = 'ground_%d' % ground
         yield 'ground %d not tried' % ground, bent(
             step_order=tuple(x for x in Emitter.step_order if x != ground))

@@ -1,12 +1,12 @@
 #!/usr/bin/env python3
-"""A second model of the emitter, written from the scope paper and request 03 alone.
+"""A second model of the emitter, written from the scope paper and requests 03 and 07 alone.
 
 It knows the frequency and the time interleaver, the placeholders of an input
-symbol, N_D, the store, the fresh start and one step, with grounds 16 to 19
-after the plan's own.  Like the model of the plans, on which it stands, it is
-kept plain: every rule is a small method that can be held against the paper,
-and that a test can bend.  What follows from the bytes of a plan alone is
-worked out once and kept.
+symbol, N_D, the store, the load profile, the fresh start and one step, with grounds
+25 and 16 to 19 after the plan's own.  Like the model of the plans, on which it stands,
+it is kept plain: every rule is a small method that can be held against the paper,
+and that a test can bend.  What follows from the bytes of a plan or of a profile alone
+is worked out once and kept.  A step that is given no profile has FULL, 14 everywhere.
 
     python3 tests/emitter.py
 
@@ -33,7 +33,7 @@ class EmitterLimits(Limits):
     rows: int = 128                 # rows of the frequency interleaver ...
     row_bits: int = 7               # ... whose numbers have so many bits
     cells: int = 4096               # ground 17: cells of a symbol
-    last_data: int = 16383          # ground 19
+    profile: int = 4096             # ground 25: bytes of a profile
     scattered_mark: int = 0x8000
     filler_mark: int = 0x8001
     excluded_mark: int = 0x8002
@@ -51,6 +51,12 @@ class Given(NamedTuple):
     arriving: Optional[list] = None
     buffer: Optional[list] = None
     end: str = 'emitter'            # whose store it is
+    profile: Optional[bytes] = None     # a flush and a fresh start are given none
+    stream: Optional[bytes] = None  # this and the start only by filling and the way back
+    start: int = 0                  # the bit of the stream
+
+
+FULL = bytes([14]) * 4096           # a profile: a data cell is 0 to 16383
 
 
 class Places:
@@ -76,14 +82,17 @@ class Layout:
         self.placeholders = {}      # by phase
         self.places = {}            # by end, of its store
         self.marks_at = {}          # by phase, of the arriving symbol
+        self.loads = {}             # by profile, of each cell
 
 
 class Emitter(Model):
-    step_order = (16, 17, 18, 19)
+    step_order = (25, 16, 17, 18, 19)
+    loads = (0, 4, 6, 7, 8, 9, 10, 11, 12, 13, 14)      # that a profile may have
 
     def __init__(self, limits=EmitterLimits()):
         super().__init__(limits)
         self.layouts = {}
+        self.profiles = {}          # of each profile the place at which 25 refuses it, or None
 
     def layout(self, plan):
         """The Layout of a plan, or its refusal ('refused', number, place)."""
@@ -166,6 +175,33 @@ class Emitter(Model):
         return [self.limits.scattered_mark if held else next(cells)
                 for held in self.placeholders(at, phase)]
 
+    # --- loads -------------------------------------------------------------
+
+    def is_listed(self, load):
+        return load in self.loads
+
+    def limit(self, load):
+        """The highest data cell of a load: below 2 to the load; with load 0 it is 0 or 1."""
+        return 1 if load == 0 else 2 ** load - 1
+
+    def cell_loads(self, at, profile):
+        """The load of each cell: that of the subcarrier it is emitted on."""
+        if profile not in at.loads:
+            at.loads[profile] = [profile[k] for k in at.carriers]
+        return at.loads[profile]
+
+    def data_loads(self, at, profile, phase):
+        """The loads of the data cells of an input symbol, in rising p."""
+        loads = self.cell_loads(at, profile)
+        return [load for load, held in zip(loads, self.placeholders(at, phase)) if not held]
+
+    def lowest_unlisted(self, profile):
+        """The lowest load byte that is not listed, or None."""
+        for k, load in enumerate(profile):
+            if not self.is_listed(load):
+                return k
+        return None
+
     # --- store and symbol --------------------------------------------------
 
     def move(self, places, store, cells):
@@ -203,6 +239,15 @@ class Emitter(Model):
     # --- grounds -----------------------------------------------------------
     # Each answers its place, or None if it does not hold.
 
+    def ground_25(self, at, given):
+        profile = given.profile
+        if profile is None:
+            return None
+        if profile not in self.profiles:
+            wrong = len(profile) != self.limits.profile
+            self.profiles[profile] = 0 if wrong else self.lowest_unlisted(profile)
+        return self.profiles[profile]
+
     def ground_16(self, at, given):
         return 0 if given.phase >= self.limits.phases else None
 
@@ -220,17 +265,20 @@ class Emitter(Model):
 
     def ground_19(self, at, given):
         if given.data is not None:
-            for i, cell in enumerate(given.data):
-                if cell > self.limits.last_data:
+            limits = {load: self.limit(load) for load in set(given.profile)}
+            loads = self.data_loads(at, given.profile, given.phase)
+            for i, (cell, load) in enumerate(zip(given.data, loads)):
+                if cell > limits[load]:
                     return i
         return None
 
-    def refusal(self, plan, given):
-        """('refused', number, place) by the first ground that holds, or None."""
+    def refusal(self, plan, given, order=None):
+        """('refused', number, place) by the first ground that holds, or None.  Those of a
+        step are tried in its order, after the plan's own."""
         at = self.layout(plan)
         if isinstance(at, tuple):
             return at
-        for ground in self.step_order:
+        for ground in order or self.step_order:
             place = getattr(self, 'ground_%d' % ground)(at, given)
             if place is not None:
                 return ('refused', ground, place)
@@ -250,10 +298,11 @@ class Emitter(Model):
         self.fill(store, list(chain(*self.fresh_places(self.layout(plan), phase))))
         return ('fresh', phase)
 
-    def step(self, plan, phase, store, data, symbol):
-        """One step; data None is a flush.  ('sent', next phase), with store and symbol
-        written; or ('refused', number, place, phase), with nothing changed."""
-        refused = self.refusal(plan, Given(phase, store, data, symbol))
+    def step(self, plan, phase, store, data, symbol, profile=FULL):
+        """One step; data None is a flush, which has no profile.  ('sent', next phase), with
+        store and symbol written; or ('refused', number, place, phase), with nothing changed."""
+        profile = None if data is None else profile
+        refused = self.refusal(plan, Given(phase, store, data, symbol, profile=profile))
         if refused:
             return (*refused, phase)
         at = self.layout(plan)
@@ -348,7 +397,7 @@ def check_run(plan, start, steps):
 
 
 def check_grounds():
-    """Grounds 16 to 19 in order, at their limits, and nothing changed."""
+    """Grounds 25 and 16 to 19 in order, at their limits, and nothing changed."""
     emitter = Emitter()
     a = plans.PLAN_A
     count = emitter.data_count(a, 5)
@@ -356,9 +405,9 @@ def check_grounds():
     bad = [3] * (count - 1) + [16384]
     need = 636
 
-    def step(want, phase=5, size=need, data=good, cells=4096, plan=a):
+    def step(want, phase=5, size=need, data=good, cells=4096, plan=a, profile=FULL):
         store, symbol, lent = [9] * size, [9] * cells, None if data is None else list(data)
-        answer = emitter.step(plan, phase, store, lent, symbol)
+        answer = emitter.step(plan, phase, store, lent, symbol, profile)
         if want == 'sent':
             assert answer == ('sent', (phase + 1) % 128)
         else:
@@ -386,6 +435,20 @@ def check_grounds():
     step((19, count - 1), data=bad)
     step((19, 0), data=[16384] + bad[1:])
     step((19, 0), data=[32768] + good[1:])
+    wrong = FULL[:700] + bytes([5]) + FULL[701:]
+    step((1, 0), plan=b'', profile=b'')
+    for profile, place in ((b'', 0), (FULL[1:], 0), (FULL + FULL[:1], 0), (wrong, 700)):
+        step((25, place), profile=profile)
+        step((25, place), profile=profile, phase=128, size=0, data=bad[1:], cells=0)
+        step('sent', profile=profile, data=None)
+    # Data cell 1 at phase 5 is cell 1, which goes to subcarrier 1029.
+    for load in emitter.loads:
+        profile, most = FULL[:1029] + bytes([load]) + FULL[1030:], emitter.limit(load)
+        assert most == {0: 1}.get(load, 2 ** load - 1)
+        step('sent', profile=profile, data=[16383, most] + good[2:] if load else [16383, 0] + good[2:])
+        step('sent', profile=profile, data=[16383, most] + good[2:])
+        step((19, 1), profile=profile, data=[16383, most + 1] + good[2:])
+        step((19, 1), profile=profile, data=[16383, most + 1] + bad[2:])
     assert emitter.fresh(a, 128, []) == ('refused', 16, 0)
     assert emitter.fresh(a, 127, [9] * (need - 1)) == ('refused', 17, 0)
     assert emitter.fresh(a, 127, [9] * need) == ('fresh', 127)

@@ -31,7 +31,7 @@ static const struct {
     NAME(HEADEND_CELL_DATA_MAX), NAME(HEADEND_CELL_SCATTERED), NAME(HEADEND_CELL_FILLER), NAME(HEADEND_CELL_EXCLUDED),
     NAME(HEADEND_CELL_CONTINUOUS), NAME(HEADEND_CELL_PLC),
     NAME(HEADEND_SUBCARRIERS), NAME(HEADEND_PHASES), NAME(HEADEND_DEPTH_MAX), NAME(HEADEND_PLAN_BYTES_MAX), NAME(HEADEND_SYMBOL_BYTES),
-    NAME(HEADEND_NUMBERS), NAME(HEADEND_RECORD_NUMBER_MAX),
+    NAME(HEADEND_NUMBERS), NAME(HEADEND_RECORD_NUMBER_MAX), NAME(HEADEND_PROFILE_BYTES),
     NAME(HEADEND_EMITTER_STORE_BYTES_MAX), NAME(HEADEND_RECEIVER_STORE_BYTES_MAX), NAME(HEADEND_DATA_BYTES_MAX), NAME(HEADEND_STACK_BYTES),
     NAME(HEADEND_ACCEPTED), NAME(HEADEND_REFUSED_PLAN_LENGTH), NAME(HEADEND_REFUSED_RECORD_KIND), NAME(HEADEND_REFUSED_NEXT_INDEX),
     NAME(HEADEND_REFUSED_RECORD_NUMBERS), NAME(HEADEND_REFUSED_PILOT_COUNT), NAME(HEADEND_REFUSED_ACTIVE_OUTSIDE),
@@ -40,30 +40,33 @@ static const struct {
     NAME(HEADEND_REFUSED_WINDOW_OF_120), NAME(HEADEND_REFUSED_WINDOW_OF_20), NAME(HEADEND_REFUSED_RANKS),
     NAME(HEADEND_REFUSED_OUT_OF_RANGE), NAME(HEADEND_REFUSED_BUFFER_LENGTH), NAME(HEADEND_REFUSED_DATA_COUNT),
     NAME(HEADEND_REFUSED_DATA_CELL), NAME(HEADEND_REFUSED_ARRIVING_CELL), NAME(HEADEND_REFUSED_BUFFER_BYTES),
-    NAME(HEADEND_REFUSED_LOAD), NAME(HEADEND_REFUSED_VALUE),
+    NAME(HEADEND_REFUSED_LOAD), NAME(HEADEND_REFUSED_VALUE), NAME(HEADEND_REFUSED_PROFILE), NAME(HEADEND_REFUSED_STREAM),
 };
 
-enum { SLOTS = 10, BUFFERS = 5, NUMBERS = 2, GUARD = 64, GUARD_BYTE = 0x5A, PAGE = 65536, ROOM = 1 << 21, GROUNDS = 23, STACK = 1 << 20 };
-enum { JUDGE, TRY, ROLE, DATA_COUNT, FRESH_EMITTER, FRESH_RECEIVER, EMIT, FLUSH, RECEIVE, MODULATE, CALLS };
+enum { SLOTS = 13, BUFFERS = 6, NUMBERS = 2, GUARD = 64, GUARD_BYTE = 0x5A, PAGE = 65536, ROOM = 1 << 21, STACK = 1 << 20 };
+enum { GROUNDS = 26, NO_CALL_GIVES = 24 };
+enum { JUDGE, TRY, ROLE, DATA_COUNT, FRESH_EMITTER, FRESH_RECEIVER, EMIT, FLUSH, RECEIVE, FILL, UNFILL, MODULATE, CALLS };
 enum { GUARDED, OWN_BLOCK, PAGE_BEHIND, PAGE_BEFORE, NULL_IF_EMPTY, WAYS };
 /* The helpers. */
-enum { NUMBER, CELL, PUT_CELL, LOWEST_PLC, DEPTH, EMITTER_STORE_BYTES, RECEIVER_STORE_BYTES, MARK, SYMBOL_PHASE };
+enum { NUMBER, CELL, PUT_CELL, LOWEST_PLC, DEPTH, EMITTER_STORE_BYTES, RECEIVER_STORE_BYTES, MARK, SYMBOL_PHASE, POINT_LOAD };
 
 static const struct {
     const char *name;
-    int numbers, buffers;
+    int numbers, starts, buffers; /* a start is a number of eight bytes */
     const char *buffer[BUFFERS];
 } CALL[CALLS] = {
-    {"judge", 0, 2, {"plan", "answer"}},
-    {"try", 2, 2, {"plan", "answer"}},
-    {"role", 2, 2, {"plan", "answer"}},
-    {"data_count", 1, 2, {"plan", "answer"}},
-    {"fresh_emitter", 1, 3, {"plan", "store", "answer"}},
-    {"fresh_receiver", 1, 3, {"plan", "store", "answer"}},
-    {"emit", 1, 5, {"plan", "store", "data", "symbol", "answer"}},
-    {"flush", 1, 4, {"plan", "store", "symbol", "answer"}},
-    {"receive", 2, 5, {"plan", "store", "symbol", "data", "answer"}},
-    {"modulate", 0, 5, {"symbol", "loads", "minus", "numbers", "answer"}},
+    {"judge", 0, 0, 2, {"plan", "answer"}},
+    {"try", 2, 0, 2, {"plan", "answer"}},
+    {"role", 2, 0, 2, {"plan", "answer"}},
+    {"data_count", 1, 0, 2, {"plan", "answer"}},
+    {"fresh_emitter", 1, 0, 3, {"plan", "store", "answer"}},
+    {"fresh_receiver", 1, 0, 3, {"plan", "store", "answer"}},
+    {"emit", 1, 0, 6, {"plan", "profile", "store", "data", "symbol", "answer"}},
+    {"flush", 1, 0, 4, {"plan", "store", "symbol", "answer"}},
+    {"receive", 2, 0, 6, {"plan", "profile", "store", "symbol", "data", "answer"}},
+    {"fill", 1, 1, 5, {"plan", "profile", "stream", "data", "answer"}},
+    {"unfill", 1, 1, 5, {"plan", "profile", "data", "stream", "answer"}},
+    {"modulate", 0, 0, 5, {"symbol", "loads", "minus", "numbers", "answer"}},
 };
 
 static const char *const WAY[WAYS] = {"between guard bytes", "in its own block", "with a page behind", "with a page before",
@@ -78,6 +81,7 @@ struct slot {
 struct call {
     unsigned which;
     uint32_t numbers[NUMBERS], wanted;
+    size_t start;
     struct slot *slots[BUFFERS];
 };
 
@@ -204,6 +208,8 @@ static void read_call(struct call *c)
         fail("no call %u", c->which);
     for (int i = 0; i < CALL[c->which].numbers; i++)
         c->numbers[i] = number();
+    if (CALL[c->which].starts != 0)
+        c->start = long_number();
     for (int i = 0; i < CALL[c->which].buffers; i++) {
         c->slots[i] = a_slot();
         memcpy(c->slots[i]->wanted, c->slots[i]->held, c->slots[i]->length);
@@ -243,6 +249,7 @@ static uint32_t help(unsigned which, uint8_t *bytes, const uint8_t *other, uint3
     case RECEIVER_STORE_BYTES: return (uint32_t)headend_receiver_store_bytes(a, b);
     case MARK: return headend_mark(a);
     case SYMBOL_PHASE: return headend_symbol_phase(bytes, other);
+    case POINT_LOAD: return headend_point_load(a);
     default: fail("no helper %u", which);
     }
 }
@@ -351,11 +358,16 @@ static uint32_t make_call(const struct call *c, const struct lent *b)
     case FRESH_RECEIVER:
         return headend_fresh_receiver(b[0].at, len[0], n[0], b[1].at, len[1], b[2].at, len[2]);
     case EMIT:
-        return headend_emit(b[0].at, len[0], n[0], b[1].at, len[1], b[2].at, len[2], b[3].at, len[3], b[4].at, len[4]);
+        return headend_emit(b[0].at, len[0], b[1].at, len[1], n[0], b[2].at, len[2], b[3].at, len[3], b[4].at, len[4], b[5].at, len[5]);
     case FLUSH:
         return headend_flush(b[0].at, len[0], n[0], b[1].at, len[1], b[2].at, len[2], b[3].at, len[3]);
     case RECEIVE:
-        return headend_receive(b[0].at, len[0], n[0], n[1], b[1].at, len[1], b[2].at, len[2], b[3].at, len[3], b[4].at, len[4]);
+        return headend_receive(b[0].at, len[0], b[1].at, len[1], n[0], n[1], b[2].at, len[2], b[3].at, len[3], b[4].at, len[4], b[5].at,
+                               len[5]);
+    case FILL:
+        return headend_fill(b[0].at, len[0], b[1].at, len[1], n[0], b[2].at, len[2], c->start, b[3].at, len[3], b[4].at, len[4]);
+    case UNFILL:
+        return headend_unfill(b[0].at, len[0], b[1].at, len[1], n[0], b[2].at, len[2], c->start, b[3].at, len[3], b[4].at, len[4]);
     default: /* numbers are counted, and aligned in every way of lending */
         return headend_modulate(b[0].at, len[0], b[1].at, len[1], b[2].at, len[2], (float *)(void *)b[3].at, len[3] / sizeof(float),
                                 b[4].at, len[4]);
@@ -453,15 +465,15 @@ static void end(void)
     uint32_t calls = number(), returned = number();
     uint64_t null = long_number();
     uint32_t names = number();
-    const uint32_t all = (UINT32_C(1) << (GROUNDS + 1)) - 1;
+    const uint32_t all = ((UINT32_C(1) << (GROUNDS + 1)) - 1) & ~(UINT32_C(1) << NO_CALL_GIVES);
     if (calls != run.calls || names != run.names)
         fail("%lu calls were to be made and %lu names compared", (unsigned long)calls, (unsigned long)names);
     if (returned != run.returned)
-        fail("numbers %06lx were returned, wanted %06lx", (unsigned long)run.returned, (unsigned long)returned);
+        fail("numbers %07lx were returned, wanted %07lx", (unsigned long)run.returned, (unsigned long)returned);
     if (null != run.null)
-        fail("buffers %09llx were NULL, wanted %09llx", (unsigned long long)run.null, (unsigned long long)null);
+        fail("buffers %012llx were NULL, wanted %012llx", (unsigned long long)run.null, (unsigned long long)null);
     printf("host: %lu calls, %s, each in 4 ways, %lu also with NULL, %llu bytes and %lu names compared", (unsigned long)run.calls,
-           returned == all ? "grounds 1..23 each reached" : "not all grounds reached", (unsigned long)run.nulls, run.bytes,
+           returned == all ? "grounds 1..23, 25 and 26 each reached" : "not all grounds reached", (unsigned long)run.nulls, run.bytes,
            (unsigned long)run.names);
     if (own.bottom != NULL) {
         printf(", %zu bytes of stack used", stack_used());

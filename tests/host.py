@@ -4,22 +4,24 @@
     python3 tests/host.py FILE             writes all cases
     python3 tests/host.py --small FILE     writes fewer, for a run under valgrind
     python3 tests/host.py --example PLAN   prints what examples/modulate.c has to print of a plan
+    python3 tests/host.py --link PLAN      prints what examples/link.c has to print of a plan
 
 Every number and byte that is expected comes from the second model (model.py, emitter.py,
-receiver.py, points.py), read as change request 01 says: two bytes a cell, high byte first, ground 21
-before all others, four numbers of four bytes in the answer.
+receiver.py, loads.py, points.py), read as change request 01 says: two bytes a cell, high byte first,
+ground 21 before all others, four numbers of four bytes in the answer.
 
-A case file is a list of items; a number is four bytes, high byte first.  Slots 0 to 9 hold the
+A case file is a list of items; a number is four bytes, high byte first.  Slots 0 to 12 hold the
 buffers: 0 the plan, 1 an emitter's store, 2 a receiver's, 3 data to be sent, 4 the symbol, 5 data
 received, 6 the answer, 7 the loads, 8 the signs of the pilots, 9 the modulator symbol as the
-machine has it, four bytes a number.
+machine has it, four bytes a number, 10 the profile, 11 the stream, 12 the stream that comes back.
 
     1, number, bytes                    the name of the cases that follow, so many bytes
     2, slot, number                     the slot has so many bytes: the last are left out, or zeros added
     3, slot, number, number, bytes      from an offset on so many bytes of the slot are these
     4, call, numbers, slots, number, number of changes, then as after a 3 for each
-                                        a call: its place in CALLS, its numbers and its buffers in the
-                                        order of headend.h, what it returns, what changes in the slots
+                                        a call: its place in CALLS, its numbers, a start in eight bytes,
+                                        and its buffers in the order of headend.h, what it returns, what
+                                        changes in the slots
     5, number, bytes, number            a name of the header, so many bytes, and its value
     6, helper, slot, slot, number, number, number
                                         a helper: its place in HELPERS, the bytes it is given, two
@@ -46,20 +48,23 @@ import loss
 import plans
 import points
 from compare import RECORD_MAX
-from emitter import emitter_length
-from receiver import Receiver, receiver_length
+from emitter import FULL, emitter_length
+from loads import LISTED, Filling, all_bits, some_profile
+from receiver import receiver_length
 from stored import ROOT
 
 ANSWER = 16
 SYMBOL = 4096
 TOP = 2 ** 32 - 1
+FAR = 2 ** 64 - 1                           # the last start
 ODD_NUMBERS = (0x12345678, 0x9ABCDEF0)      # no byte as another
 BLOCK = 256
-PLAN, SENDING, LISTENING, GIVEN, LINE, HANDED, SAID, LOADS, SIGNS, NUMBERS = range(10)
+PLAN, SENDING, LISTENING, GIVEN, LINE, HANDED, SAID, LOADS, SIGNS, NUMBERS, PROFILE, STREAM, BACK = range(13)
 OF_CELLS = ('store', 'data', 'symbol')
 ROLES = ('excluded', 'plc', 'continuous', 'scattered', 'data')
 
-# Of each call: how many numbers it takes, its buffers, how many of its numbers are a state, its grounds.
+# Of each call: how many numbers it takes, its buffers, how many of its numbers are a state, its grounds.  Fill and unfill
+# take a start after their numbers.
 CALLS = {
     'judge': (0, 'plan answer', 0, {*range(1, 16), 21}),
     'try': (2, 'plan answer', 0, {*range(1, 16), 21}),
@@ -67,20 +72,25 @@ CALLS = {
     'data_count': (1, 'plan answer', 0, {*range(1, 17), 21}),
     'fresh_emitter': (1, 'plan store answer', 0, {*range(1, 18), 21}),
     'fresh_receiver': (1, 'plan store answer', 0, {*range(1, 18), 21}),
-    'emit': (1, 'plan store data symbol answer', 1, {*range(1, 20), 21}),
+    'emit': (1, 'plan profile store data symbol answer', 1, {*range(1, 20), 21, 25}),
     'flush': (1, 'plan store symbol answer', 1, {*range(1, 18), 21}),
-    'receive': (2, 'plan store symbol data answer', 2, {*range(1, 18), 20, 21}),
+    'receive': (2, 'plan profile store symbol data answer', 2, {*range(1, 18), 20, 21, 25}),
+    'fill': (1, 'plan profile stream data answer', 0, {*range(1, 17), 18, 21, 25, 26}),
+    'unfill': (1, 'plan profile data stream answer', 0, {*range(1, 17), 18, 19, 21, 25, 26}),
     'modulate': (0, 'symbol loads minus numbers answer', 0, {17, 21, 22, 23}),
 }
 
+STARTED = ('fill', 'unfill')
+NOT_LOADS = [load for load in range(256) if load not in LISTED]
 BUFFERS = [(name, key) for name, (_, buffers, *_) in CALLS.items() for key in buffers.split()]
 HELPERS = ('number', 'cell', 'put_cell', 'lowest_plc', 'depth', 'emitter_store_bytes', 'receiver_store_bytes',
-           'mark', 'symbol_phase')
+           'mark', 'symbol_phase', 'point_load')
 HEADER = ROOT / 'include' / 'headend.h'
 GROUNDS = ('PLAN_LENGTH', 'RECORD_KIND', 'NEXT_INDEX', 'RECORD_NUMBERS', 'PILOT_COUNT', 'ACTIVE_OUTSIDE',
            'EXCLUDED_AROUND_PLC', 'PILOT_TAKEN', 'NARROW_BAND', 'NO_WIDE_BAND', 'EXCLUDED_IN_SPAN',
            'EXCLUDED_IN_BAND', 'WINDOW_OF_120', 'WINDOW_OF_20', 'RANKS', 'OUT_OF_RANGE', 'BUFFER_LENGTH',
-           'DATA_COUNT', 'DATA_CELL', 'ARRIVING_CELL', 'BUFFER_BYTES', 'LOAD', 'VALUE')
+           'DATA_COUNT', 'DATA_CELL', 'ARRIVING_CELL', 'BUFFER_BYTES', 'LOAD', 'VALUE', None, 'PROFILE', 'STREAM')
+NUMBERED = {name: 1 + i for i, name in enumerate(GROUNDS) if name}      # 24 no call gives
 
 
 def number(n):
@@ -101,7 +111,7 @@ def to_bytes(cells):
 
 # --- the interface, by the second model ------------------------------------
 
-class Interface(Receiver):
+class Interface(Filling):
     """The calls, over bytes."""
 
     def __init__(self):
@@ -125,12 +135,14 @@ class Interface(Receiver):
             return 21, self.said(given, 0, state)
         cells = {key: to_cells(data) for key, data in lent.items()}
         singles = {key: array('I', data) for key, data in given.items() if key == 'numbers'}
-        others = {key: data for key, data in given.items() if key not in (*OF_CELLS, 'numbers', 'answer')}
-        answer = getattr(self, 'call_' + name)(*numbers, **others, **cells, **singles)
+        streams = {key: bytearray(data) for key, data in given.items() if key == 'stream'}
+        others = {key: data for key, data in given.items() if key not in (*OF_CELLS, 'numbers', 'stream', 'answer')}
+        answer = getattr(self, 'call_' + name)(*numbers, **others, **cells, **singles, **streams)
         if answer[0] == 'refused':
             return answer[1], self.said(given, answer[2], state, answer[3] if name == 'modulate' else 0)
         left = {key: to_bytes(data) for key, data in cells.items()}
         left.update((key, data.tobytes()) for key, data in singles.items())
+        left.update((key, bytes(data)) for key, data in streams.items())
         return 0, self.said({**given, **left}, 0, *answer)
 
     def said(self, given, place, state=(), value=0):
@@ -165,18 +177,26 @@ class Interface(Receiver):
         answer = self.listen(plan, phase, store)
         return answer if answer[0] == 'refused' else (answer[1:], 0)
 
-    def call_emit(self, phase, plan, store, data, symbol):
-        answer = self.step(plan, phase, store, data, symbol)
+    def call_emit(self, phase, plan, profile, store, data, symbol):
+        answer = self.step(plan, phase, store, data, symbol, profile)
         return answer if answer[0] == 'refused' else (answer[1:], 0)
 
     def call_flush(self, phase, plan, store, symbol):
-        return self.call_emit(phase, plan, store, None, symbol)
+        return self.call_emit(phase, plan, None, store, None, symbol)
 
-    def call_receive(self, phase, heard, plan, store, symbol, data):
-        answer = self.receive(plan, phase, heard, store, symbol, data)
+    def call_receive(self, phase, heard, plan, profile, store, symbol, data):
+        answer = self.receive(plan, phase, heard, store, symbol, data, profile)
         if answer[0] == 'refused':
             return answer
         return answer[-2:], answer[1] if answer[0] == 'data' else 0
+
+    def call_fill(self, phase, start, plan, profile, stream, data):
+        answer = self.fill_symbol(plan, profile, phase, stream, start, data)
+        return answer if answer[0] == 'refused' else ((), answer[1])
+
+    def call_unfill(self, phase, start, plan, profile, data, stream):
+        answer = self.unfill_symbol(plan, profile, phase, data, start, stream)
+        return answer if answer[0] == 'refused' else ((), answer[1])
 
     def call_modulate(self, symbol, loads, minus, numbers):
         bits = numbers.tolist()
@@ -235,7 +255,9 @@ class Cases:
         wanted = self.bend(self.calls, returned, after) if self.bend else (returned, after)
         parts = [bytes([slot]) + number(at) + number(len(part)) + part for key, slot in slots.items()
                  for at, part in changes(given[key], wanted[1][key])]
-        self.file.write(bytes([4, list(CALLS).index(name)]) + b''.join(map(number, numbers))
+        takes = CALLS[name][0]
+        starts = b''.join(start.to_bytes(8, 'big') for start in numbers[takes:])
+        self.file.write(bytes([4, list(CALLS).index(name)]) + b''.join(map(number, numbers[:takes])) + starts
                         + bytes(slots.values()) + number(wanted[0]) + number(len(parts))
                         + b''.join(parts))
         for key, slot in slots.items():
@@ -245,10 +267,10 @@ class Cases:
 
     def slots(self, name):
         """The slot of each buffer of a call."""
-        hears = name in ('receive', 'fresh_receiver')
+        hears = name in ('receive', 'fresh_receiver', 'unfill')
         of = {'plan': PLAN, 'store': LISTENING if hears else SENDING,
               'data': HANDED if hears else GIVEN, 'symbol': LINE, 'answer': SAID,
-              'loads': LOADS, 'minus': SIGNS, 'numbers': NUMBERS}
+              'loads': LOADS, 'minus': SIGNS, 'numbers': NUMBERS, 'profile': PROFILE, 'stream': BACK if hears else STREAM}
         return {key: of[key] for key in CALLS[name][1].split()}
 
     def header_name(self, name, value):
@@ -285,6 +307,15 @@ def some_data(rng, count):
     return to_bytes([x % 16384 for x in array('H', rng.randbytes(2 * count))])
 
 
+def fitting_data(rng, model, loads):
+    """Data within the limits of these loads."""
+    return to_bytes([x % (model.limit(load) + 1) for x, load in zip(array('H', rng.randbytes(2 * len(loads))), loads)])
+
+
+def with_load(profile, k, load):
+    return profile[:k] + bytes([load]) + profile[k + 1:]
+
+
 def with_cell(data, i, cell):
     return data[:2 * i] + cell.to_bytes(2, 'big') + data[2 * i + 2:]
 
@@ -299,10 +330,10 @@ def value_of(answer):
 
 
 class Link:
-    """An emitter and a receiver of one plan, and the line between."""
+    """An emitter and a receiver of one plan and one profile, and the line between."""
 
-    def __init__(self, cases, plan, start, seed, spare=3):
-        self.cases, self.plan = cases, plan
+    def __init__(self, cases, plan, start, seed, spare=3, profile=FULL):
+        self.cases, self.plan, self.profile = cases, plan, profile
         self.rng = random.Random(seed)
         self.at = cases.model.layout(plan)
         self.needs = {end: cases.model.places(self.at, end).length for end in ('emitter', 'receiver')}
@@ -324,26 +355,29 @@ class Link:
 
     # Each step is the right one but for what is said in `other`.
 
+    def loads(self, phase):
+        return self.cases.model.data_loads(self.at, self.profile, phase)
+
     def emit(self, name='emit', **other):
-        count = self.cases.model.count(self.at, self.sender[0])
         given = {'plan': self.plan, 'store': self.sending, 'symbol': self.symbol, **other}
         numbers = given.pop('state', self.sender)
-        data = some_data(self.rng, count)
+        data = fitting_data(self.rng, self.cases.model, self.loads(self.sender[0]))
         if name == 'emit':
             given.setdefault('data', data)
+            given.setdefault('profile', self.profile)
         return self.cases.call(name, *numbers, **given)
 
     def receive(self, **other):
         count = self.cases.model.count(self.at, self.cases.model.input_phase(self.at, self.state[0]))
         warming = self.state[1] < self.at.m - 1     # then a data buffer of any length will do
         room = self.rng.choice((0, 1, count - 1, count)) if warming else count + self.rng.choice((0, 0, 1, 50))
-        given = {'plan': self.plan, 'store': self.listening, 'symbol': self.symbol, **other}
+        given = {'plan': self.plan, 'profile': self.profile, 'store': self.listening, 'symbol': self.symbol, **other}
         given.setdefault('data', some_bytes(self.rng, room))
         numbers = given.pop('state', self.state)
         return self.cases.call('receive', *numbers, **given)
 
-    def send(self, flush=False):
-        returned, after = self.emit('flush' if flush else 'emit')
+    def send(self, flush=False, **other):
+        returned, after = self.emit('flush' if flush else 'emit', **other)
         assert returned == 0
         self.sending, self.symbol = after['store'], after['symbol']
         count = self.cases.model.count(self.at, self.sender[0])
@@ -351,7 +385,7 @@ class Link:
         self.sender = self.next_state(after['answer'], 1)
 
     def hear(self):
-        """What is received is what was sent M - 1 symbols before."""
+        """What is received is what was sent M - 1 symbols before.  Answers the data that was handed out."""
         returned, after = self.receive()
         assert returned == 0
         count = value_of(after['answer'])
@@ -360,6 +394,7 @@ class Link:
         self.listening = after['store']
         self.state = self.next_state(after['answer'], 2)
         self.t += 1
+        return after['data'][:2 * count]
 
     def short_stores(self, end, store):
         """What is wrong with the store of an end: too short, and so not at depth 1, or of odd length."""
@@ -368,11 +403,23 @@ class Link:
             yield from (({'store': store[:2 * need - 2]}, 17), ({'store': b''}, 17), ({'store': store[:2 * need - 1]}, 21))
         yield {'store': store + b'\0'}, 21
 
+    def wrong_profiles(self):
+        """The same of the profile."""
+        k, load = self.rng.randrange(SYMBOL), self.rng.choice(NOT_LOADS)
+        bad = with_load(self.profile, k, load)
+        yield from (({'profile': self.profile[1:]}, 25), ({'profile': self.profile + b'\0'}, 25), ({'profile': b''}, 25),
+                    ({'profile': bad}, 25), ({'profile': bad, 'state': (128, 99)}, 25), ({'profile': bad, 'store': b'\0'}, 21),
+                    ({'profile': bad, 'symbol': b''}, 25), ({'profile': bad[1:], 'data': b''}, 25))
+
     def wrong_sends(self):
         """(what is other, the number that refuses it) of an emit."""
         phase, = self.sender
-        count = self.cases.model.count(self.at, phase)
-        good = some_data(self.rng, count)
+        loads = self.loads(phase)
+        count, good = len(loads), fitting_data(self.rng, self.cases.model, loads)
+        c = self.rng.randrange(count)
+        yield {'data': with_cell(good, c, self.cases.model.limit(loads[c]) + 1)}, 19
+        for other, want in self.wrong_profiles():
+            yield {key: value[:1] if key == 'state' else value for key, value in other.items()}, want
         yield from self.short_stores('emitter', self.sending)
         yield from (({**short, 'data': good[2:]}, want) for short, want in self.short_stores('emitter', self.sending))
         yield from (({'data': good[2:]}, 18), ({'data': good + b'\0\0'}, 18), ({'data': b''}, 18),
@@ -394,6 +441,7 @@ class Link:
         """The same of a receive step."""
         phase, heard = self.state
         m, symbol = self.at.m, self.symbol
+        yield from self.wrong_profiles()
         yield from self.short_stores('receiver', self.listening)
         yield from (({'state': (phase, m)}, 16), ({'state': (phase + 128, heard)}, 16),
                     ({'state': (128, heard)}, 16), ({'state': (TOP, TOP)}, 16),
@@ -414,6 +462,8 @@ class Link:
             turn = self.rng.randrange(SYMBOL)
             k = (turn + (marks[turn:] + marks[:turn]).index(mark)) % SYMBOL
             yield {'symbol': with_cell(symbol, k, cell)}, 20
+        k = self.rng.choice([k for k, mark in enumerate(marks) if mark is None])
+        yield {'symbol': with_cell(symbol, k, self.cases.model.limit(self.profile[k]) + 1)}, 20
         for room in (0, 1, ANSWER - 1):
             yield {'answer': b'\x5A' * room, 'state': (TOP, TOP)}, 21
             yield {'answer': b'\x5A' * room}, 21
@@ -426,7 +476,7 @@ class Link:
             assert returned == want, (returned, want)
 
     def refused_flush(self, some):
-        wrongs = [(other, want) for other, want in self.wrong_sends() if 'data' not in other]
+        wrongs = [(other, want) for other, want in self.wrong_sends() if not other.keys() & {'data', 'profile'}]
         self.refused(lambda **other: self.emit('flush', **other), wrongs, some)
 
     def run(self, symbols, some=2):
@@ -445,18 +495,18 @@ class Link:
 def names_of(limits):
     """What each name of the header has to be."""
     marks = {'SCATTERED': limits.scattered_mark, 'FILLER': limits.filler_mark, 'EXCLUDED': limits.excluded_mark,
-             'CONTINUOUS': limits.continuous_mark, 'PLC': limits.plc_mark, 'DATA_MAX': limits.last_data}
+             'CONTINUOUS': limits.continuous_mark, 'PLC': limits.plc_mark, 'DATA_MAX': 2 ** max(LISTED) - 1}
     four = ('PLACE', 'PHASE', 'HEARD', 'VALUE')
     largest = {'EMITTER': emitter_length, 'RECEIVER': receiver_length}
-    return {'VERSION': 3, 'ANSWER_BYTES': ANSWER, **{name: 4 * i for i, name in enumerate(four)},
+    return {'VERSION': 4, 'ANSWER_BYTES': ANSWER, **{name: 4 * i for i, name in enumerate(four)},
             **{name.upper(): 1 + i for i, name in enumerate(ROLES)},
             **{'CELL_' + name: mark for name, mark in marks.items()},
             'SUBCARRIERS': limits.last_subcarrier + 1, 'PHASES': limits.phases, 'DEPTH_MAX': limits.highest_m,
             'PLAN_BYTES_MAX': limits.longest, 'SYMBOL_BYTES': 2 * limits.cells, 'NUMBERS': 2 * limits.cells,
-            'RECORD_NUMBER_MAX': RECORD_MAX,
+            'RECORD_NUMBER_MAX': RECORD_MAX, 'PROFILE_BYTES': limits.profile,
             **{end + '_STORE_BYTES_MAX': 2 * length(limits.most_ranks, limits.highest_m)
                for end, length in largest.items()}, 'DATA_BYTES_MAX': 2 * limits.most_ranks, 'STACK_BYTES': 131072, 'ACCEPTED': 0,
-            **{'REFUSED_' + name: 1 + i for i, name in enumerate(GROUNDS)}}
+            **{'REFUSED_' + name: n for name, n in NUMBERED.items()}}
 
 
 def header_names(cases):
@@ -485,6 +535,8 @@ def helpers(cases, phases):
     marks = names_of(model.limits)
     for i, role in enumerate(('EXCLUDED', 'PLC', 'CONTINUOUS', 'SCATTERED', 'FILLER')):
         cases.helper('mark', GIVEN, 1 + i, want=marks['CELL_' + role])
+    for load in (*range(256), 256, TOP):
+        cases.helper('point_load', GIVEN, load, want=1 if load == 0 else load)
     for m in range(1, 33):
         for n in (282, 425, 32 * m, 100 * m + m // 2, 3744, 3745):
             cases.helper('emitter_store_bytes', SAID, n, m, want=2 * sum(p % m for p in range(n)))
@@ -543,13 +595,16 @@ def refused_plans(cases):
         for name, (takes, buffers, *_) in of_plans():
             cases.name('%s refused by %d' % (name, ground))
             # Good buffers of Plan A, then short ones and numbers out of range.
-            for cells, n in (({'store': 639, 'data': 421, 'symbol': SYMBOL}, 3), ({}, TOP)):
+            takes += name in STARTED
+            for cells, n in (({'store': 639, 'data': 421, 'symbol': SYMBOL, 'stream': 400}, 3), ({}, TOP)):
                 given = {key: some_bytes(rng, cells.get(key, 2)) for key in buffers.split()[1:-1]}
+                if cells and 'profile' in given:
+                    given['profile'] = FULL
                 want = 4 if name == 'try' and n == TOP and ground > 5 else ground       # the new record's
                 assert cases.call(name, *[n] * takes, plan=plan, **given)[0] == want
             for odd in given:
                 bad = {**given, odd: given[odd] + b'\0'}
-                assert cases.call(name, *[5] * takes, plan=plan, **bad)[0] == 21
+                assert cases.call(name, *[5] * takes, plan=plan, **bad)[0] == (21 if odd in OF_CELLS else ground)
             for room in (0, 1, ANSWER - 1):
                 given['answer'] = b'\x5A' * room
                 assert cases.call(name, *[5] * takes, plan=plan, **given)[0] == 21
@@ -585,7 +640,7 @@ def store_lengths(cases, depths):
         for plan in (plans.near_a(M=m), plans.near_a(pilots=range(1060, 1060 + 425 % m), M=m)):
             at, phase = cases.model.layout(plan), rng.randrange(128)
             cases.name('stores at depth %d with N_I %d' % (m, at.n))
-            full = {'plan': plan, 'symbol': to_bytes([5 if mark is None else mark
+            full = {'plan': plan, 'profile': FULL, 'symbol': to_bytes([5 if mark is None else mark
                                                       for mark in cases.model.marks_at(at, phase)])}
             lengths = {end: cases.model.places(at, end).length for end in ('emitter', 'receiver')}
             for name, (takes, buffers, *_) in CALLS.items():
@@ -609,31 +664,33 @@ def any_states(cases, depths):
             cases.name('any state at depth %d' % m)
             at = cases.model.layout(plan)
             for phase in (0, 127, rng.randrange(128)):
-                heard = rng.choice((0, m - 1))
-                line = to_bytes([rng.choice((0x8001, rng.randrange(16384))) if mark is None else mark
-                                 for mark in cases.model.marks_at(at, phase)])
+                heard, profile = rng.choice((0, m - 1)), some_profile(rng)
+                line = to_bytes([rng.choice((0x8001, rng.randrange(cases.model.limit(load) + 1))) if mark is None else mark
+                                 for mark, load in zip(cases.model.marks_at(at, phase), profile)])
                 store = some_bytes(rng, receiver_length(at.n, m), 7)    # the longer of the two
                 room = some_bytes(rng, SYMBOL)
-                data = some_data(rng, cases.model.count(at, phase))
-                assert cases.call('emit', phase, plan=plan, store=store, data=data, symbol=room)[0] == 0
+                data = fitting_data(rng, cases.model, cases.model.data_loads(at, profile, phase))
+                assert cases.call('emit', phase, plan=plan, profile=profile, store=store, data=data, symbol=room)[0] == 0
                 assert cases.call('flush', phase, plan=plan, store=store, symbol=room)[0] == 0
-                assert cases.call('receive', phase, heard, plan=plan, store=store, symbol=line,
+                assert cases.call('receive', phase, heard, plan=plan, profile=profile, store=store, symbol=line,
                                   data=some_bytes(rng, at.n))[0] == 0
 
 
 def runs(cases, depths, large, all_wrong, long):
     """Links at these depths: of Plan A's neighbours, also round the wrap of the phases; of large plans;
-    with every refused step, and with a receiver that comes late; and a long one at depth 3."""
+    with every refused step, and with a receiver that comes late; and a long one at depth 3.  Some with 14
+    everywhere, others with mixed loads."""
+    mixed = random.Random(21)
     for m in depths:
-        for start in (127 - m // 2, 37 * m % 128):
+        for start, profile in ((127 - m // 2, FULL), (37 * m % 128, some_profile(mixed))):
             cases.name('a link of depth %d from phase %d' % (m, start))
-            Link(cases, plans.near_a(M=m), start, m).run(2 * m + 3 if start > 100 else m + 2)
+            Link(cases, plans.near_a(M=m), start, m, profile=profile).run(2 * m + 3 if start > 100 else m + 2)
     for m in large:
         cases.name('a large link of depth %d' % m)
-        Link(cases, at_depth(plans.LARGEST, m), 127 - m // 2, m, 0).run(m + 4, 1)
+        Link(cases, at_depth(plans.LARGEST, m), 127 - m // 2, m, 0, FULL if m % 2 else some_profile(mixed)).run(m + 4, 1)
     for m in all_wrong:
         cases.name('every refused step at depth %d' % m)
-        Link(cases, plans.near_a([(850, 853)], [900], M=m), 126, m).run(m + 3, None)
+        Link(cases, plans.near_a([(850, 853)], [900], M=m), 126, m, profile=some_profile(mixed)).run(m + 3, None)
     for m in all_wrong:
         cases.name('a receiver that comes late, at depth %d' % m)
         link = Link(cases, plans.near_a(M=m), 120, m)
@@ -642,7 +699,7 @@ def runs(cases, depths, large, all_wrong, long):
         link.listen(1)
         link.run(m + 3, 0)
     cases.name('a long link')
-    Link(cases, plans.near_a(M=3), 5, 9).run(long, 0)
+    Link(cases, plans.near_a(M=3), 5, 9, profile=some_profile(mixed, (0, 4, 14))).run(long, 0)
 
 
 def empty_buffers(cases):
@@ -651,21 +708,22 @@ def empty_buffers(cases):
     link = Link(cases, plan, 60, 3)
     link.send()
     cases.name('empty buffers')
-    refused = {'plan': 1, 'store': 17, 'symbol': 17, 'data': 18, 'answer': 21}
+    refused = {'plan': 1, 'profile': 25, 'store': 17, 'symbol': 17, 'data': 18, 'stream': 26, 'answer': 21}
     for name, (takes, buffers, *_) in of_plans():
-        data = some_data(rng, cases.model.count(link.at, 60)) if name == 'emit' else some_bytes(rng, link.at.n)
+        data = some_bytes(rng, link.at.n) if name == 'receive' else some_data(rng, cases.model.count(link.at, 60))
         hears = name in ('receive', 'fresh_receiver')
-        full = {'plan': plan, 'store': link.listening if hears else link.sending, 'data': data, 'symbol': link.symbol,
-                'answer': bytes(ANSWER)}
+        full = {'plan': plan, 'profile': FULL, 'store': link.listening if hears else link.sending, 'data': data,
+                'symbol': link.symbol, 'stream': rng.randbytes(800), 'answer': bytes(ANSWER)}
         full = {key: full[key] for key in buffers.split()}
-        numbers = (60, 60) if name == 'try' else (60, 0)[:takes]
+        numbers = (60, 60) if name == 'try' else (60, 0)[:takes + (name in STARTED)]
         assert cases.call(name, *numbers, **full)[0] == 0
         for key in full:
             want = 0 if (name, key) == ('receive', 'data') else refused[key]     # warming, any data buffer will do
             assert cases.call(name, *numbers, **{**full, key: b''})[0] == want
         assert cases.call(name, *numbers, **dict.fromkeys(full, b''))[0] == 21
         assert cases.call(name, *numbers, **{**dict.fromkeys(full, b''), 'answer': bytes(ANSWER)})[0] == 1
-    assert cases.call('receive', 61, 1, **{**full, 'data': b''})[0] == 17     # not warming
+        if name == 'receive':
+            assert cases.call('receive', 61, 1, **{**full, 'data': b''})[0] == 17     # not warming
 
 
 def losses(cases):
@@ -872,6 +930,268 @@ def tried_numbers(cases):
                 attempt(cases, plan, first, last, answer=b'\x5A' * room)
 
 
+# --- loads and streams -----------------------------------------------------
+
+LOADED = ('emit', 'receive', 'fill', 'unfill')      # the calls that are given a profile
+
+
+class Loaded:
+    """What the four calls are given, all of it right but for what is said in `other`: of a plan at a phase under a profile.  The
+    receiver is not warming, and the stream has just enough bytes from the start on."""
+
+    def __init__(self, cases, plan, phase, profile, seed, start=0):
+        self.cases, self.rng, self.at = cases, random.Random(seed), cases.model.layout(plan)
+        self.model, self.phase, self.start = cases.model, phase, start
+        self.loads = self.model.data_loads(self.at, profile, phase)
+        self.limits = [self.model.limit(load) for load in self.loads]
+        self.need = sum(self.loads)
+        self.good = {'plan': plan, 'profile': profile, 'data': fitting_data(self.rng, self.model, self.loads),
+                     'stream': self.rng.randbytes(-(-(start + self.need) // 8)), 'symbol': some_bytes(self.rng, SYMBOL)}
+        marks = self.model.marks_at(self.at, phase)
+        self.line = to_bytes([self.model.limit(load) if mark is None else mark for mark, load in zip(marks, profile)])
+        self.carriers = [k for k, mark in enumerate(marks) if mark is None]     # of data, in the arriving symbol
+        self.stores = {end: some_bytes(self.rng, self.model.places(self.at, end).length) for end in ('emitter', 'receiver')}
+
+    def call(self, name, want, **other):
+        """What the call has to return, and its place where it refuses; where it does not, its value.  Answers the buffers."""
+        given = {**self.good, 'answer': self.rng.randbytes(ANSWER + self.rng.choice((0, 5)))}
+        given['store'] = self.stores['receiver' if name == 'receive' else 'emitter']
+        if name == 'receive':
+            given.update(symbol=self.line, data=some_bytes(self.rng, self.at.n))
+        if name == 'fill':
+            given['data'] = some_bytes(self.rng, len(self.loads))       # of any content
+        numbers = {'emit': (self.phase,), 'receive': (self.phase, self.at.m - 1)}.get(name, (self.phase, self.start))
+        given.update(other)
+        numbers = given.pop('numbers', numbers)
+        returned, after = self.cases.call(name, *numbers, **{key: given[key] for key in CALLS[name][1].split()})
+        answer = after['answer']
+        if len(answer) >= ANSWER and returned != 21:
+            got = returned, int.from_bytes(answer[:4], 'big') if returned else value_of(answer)
+            assert got == (*want, 0)[:2] or want == (0,) == got[:1], (name, want, got)
+        assert returned == want[0], (name, want, returned)
+        return after
+
+    def value(self, name):
+        """What the call gives when nothing is wrong."""
+        return (0, self.need) if name in STARTED else (0,)
+
+
+def of_each_role(model, at, phase):
+    """A subcarrier of each role at the phase, and the first and the last of all."""
+    marks = model.marks_at(at, phase)
+    return sorted({0, 4095, *(marks.index(mark) for mark in set(marks)), 4095 - marks[::-1].index(None)})
+
+
+def profiles(cases, values):
+    """25: other lengths, each byte that is not listed, at every role; the lowest of several; 25 after 15, and before 16 to 20 and 26."""
+    rng = random.Random(30)
+    for plan, phase in ((plans.PLAN_A, 5), (plans.near_a([(850, 853)], [900], M=7), 127)):
+        profile = some_profile(rng)
+        given = Loaded(cases, plan, phase, profile, 31)
+        for name in LOADED:
+            cases.name('profiles of %s' % name)
+            given.call(name, given.value(name))
+            for bad in (b'', profile[:1], profile[1:], profile + b'\0', profile * 2, b'\5', b'\5' * 4095, b'\5' * 4097):
+                given.call(name, (25, 0), profile=bad)
+            roles = of_each_role(cases.model, given.at, phase)
+            for k in roles:
+                for load in (1, 2, 3, 5, 15, 16, 255):
+                    given.call(name, (25, k), profile=with_load(profile, k, load))
+            for load in values:
+                k = rng.randrange(SYMBOL)
+                given.call(name, (25, k), profile=with_load(profile, k, load))
+            for load in LISTED:
+                for k in (0, 4095):                                 # excluded: the load does not matter
+                    given.call(name, given.value(name), profile=with_load(profile, k, load))
+            for low, high in ((0, 4095), (1, 2), (15, 16), (2047, 2048), (799, 800)):
+                given.call(name, (25, low), profile=with_load(with_load(profile, low, 255), high, 5))
+            bad = with_load(profile, 4000, 5)
+            far = (128, 99)[:CALLS[name][0]] if name not in STARTED else (128, FAR)
+            for other in ({'numbers': far}, {'store': b''}, {'symbol': b''}, {'data': b''}, {'stream': b''},
+                          {'numbers': far, 'store': b'', 'symbol': b'', 'data': b'', 'stream': b''}):
+                given.call(name, (25, 4000), profile=bad, **other)
+                given.call(name, (25, 0), profile=bad[1:], **other)
+            given.call(name, (14, 835), profile=bad, plan=plans.near_a([(850, 854)]))
+            given.call(name, (15, 0), profile=b'', plan=plans.ONE_PILOT_FEWER)
+            given.call(name, (21,), profile=bad, data=b'\0')
+            for room in (0, 1, ANSWER - 1):
+                given.call(name, (21,), profile=bad, answer=b'\x5A' * room)
+
+
+def loads_limits(cases, plan_phases):
+    """The limit of each load, and one more, at the first, the middle and the last data cell of emit and unfill, and at the first, the
+    middle and the last subcarrier with data of receive.  With load 0 the cell is 0 or 1."""
+    for plan, phase in plan_phases:
+        for turn in range(len(LISTED)):
+            profile = bytes(LISTED[(k + turn) % len(LISTED)] for k in range(SYMBOL))
+            given = Loaded(cases, plan, phase, profile, turn)
+            cases.name('limits of loads at phase %d' % phase)
+            top = to_bytes(given.limits)
+            for name in ('emit', 'unfill'):
+                given.call(name, given.value(name), data=top)
+                for c in (0, len(given.loads) // 2, len(given.loads) - 1):
+                    given.call(name, given.value(name), data=with_cell(top, c, 0))
+                    given.call(name, (19, c), data=with_cell(top, c, given.limits[c] + 1))
+                    given.call(name, (19, c), data=with_cell(top, c, 0x8001))
+                    given.call(name, (19, c), data=with_cell(with_cell(top, len(given.loads) - 1, 65535), c, given.limits[c] + 1))
+            given.call('receive', (0,))
+            carriers = given.carriers
+            for k in (carriers[0], carriers[len(carriers) // 2], carriers[-1]):
+                most = cases.model.limit(profile[k])
+                for cell in (0, 1, most, 0x8001):
+                    given.call('receive', (0,), symbol=with_cell(given.line, k, cell))
+                for cell in (most + 1, 2 * most + 1, 16384, 0x8000, 0x8005):
+                    if cell > most:
+                        given.call('receive', (20, k), symbol=with_cell(given.line, k, cell))
+                given.call('receive', (20, k), symbol=with_cell(with_cell(given.line, k, most + 1), 4095, 0))
+    cases.name('load 0')
+    for cells, want in (((0,), None), ((1,), None), ((0, 1), None), ((2,), 0), ((1, 1, 2), 2), ((0, 0, 0, 3), 3)):
+        given = Loaded(cases, plans.PLAN_A, 9, bytes(SYMBOL), 32)
+        count = len(given.loads)
+        data = to_bytes([cells[i % len(cells)] for i in range(count)])
+        for name in ('emit', 'unfill'):
+            given.call(name, given.value(name) if want is None else (19, want), data=data)
+        for k, cell in ((800, 0), (800, 1), (1240, 1), (800, 2), (1240, 3)):
+            given.call('receive', (0,) if cell < 2 else (20, k), symbol=with_cell(given.line, k, cell))
+
+
+def starts_of(given):
+    """Of a stream of so many bytes: starts of which the symbol's bits remain, and some of which they do not, up to the last number."""
+    bits = 8 * len(given.good['stream'])
+    last = bits - given.need
+    good = {s for s in (0, 1, 7, 8, last - 1, last) if 0 <= s <= last}
+    bad = {last + 1, last + 8, bits - 1, bits, bits + 1, 2 ** 32, 2 ** 32 + last, 2 ** 61, 2 ** 61 + 1, 2 ** 63, 2 ** 63 + last,
+           FAR, FAR - 7, FAR + 1 - given.need, FAR + 1 - given.need + last, FAR + 1 - 8 * (given.need // 8)} - {0}
+    return sorted(good), sorted(s for s in bad if last < s <= FAR)
+
+
+def fillings(cases, given_plans, seed):
+    """Symbols filled and taken back: from every bit of a byte, with bytes before and behind, with exactly enough bits and one too few."""
+    rng = random.Random(seed)
+    for plan, phase, loads in given_plans:
+        profile = bytes(rng.choice(loads) for _ in range(SYMBOL))
+        cases.name('streams of loads %s' % (loads,))
+        for start in (*range(9), 15, 16, 77):
+            given = Loaded(cases, plan, phase, profile, start, start)
+            for spare in (b'', rng.randbytes(1), rng.randbytes(9)):
+                stream = given.good['stream'] + spare
+                after = given.call('fill', (0, given.need), stream=stream)
+                other = rng.randbytes(len(stream))
+                back = given.call('unfill', (0, given.need), data=after['data'], stream=other)
+                bits, was, now = all_bits(stream), all_bits(other), all_bits(back['stream'])
+                end = start + given.need
+                assert now == was[:start] + bits[start:end] + was[end:]
+            for stream in (given.good['stream'][:-1], given.good['stream'][:len(given.good['stream']) // 2], b'\0', b''):
+                for name in STARTED if given.need else ():
+                    given.call(name, (26, 0), stream=stream)
+        given = Loaded(cases, plan, phase, profile, 5, 13)
+        good, bad = starts_of(given)
+        for name in STARTED:
+            for start in good:
+                given.call(name, (0, given.need), numbers=(phase, start))
+            for start in bad if given.need else ():
+                given.call(name, (26, 0), numbers=(phase, start))
+
+
+def no_bits(cases):
+    """Symbols whose loads add up to 0, for which no start is too far, and symbols of which one cell carries bits."""
+    rng = random.Random(33)
+    cases.name('symbols without bits')
+    given = Loaded(cases, plans.PLAN_A, 77, bytes(SYMBOL), 33)
+    for start in (0, 1, 7, 8, 9, 800, 801, 2 ** 32, FAR - 7, FAR):
+        for size in (0, 1, 100):
+            stream = rng.randbytes(size)
+            assert not any(given.call('fill', (0, 0), numbers=(77, start), stream=stream)['data'])
+            given.call('unfill', (0, 0), numbers=(77, start), stream=stream)
+            given.call('unfill', (19, 3), numbers=(77, start), stream=stream, data=with_cell(given.good['data'], 3, 2))
+    cases.name('symbols of which one cell carries bits')
+    at, count = given.at, len(given.loads)
+    free = [p for p, held in enumerate(cases.model.placeholders(at, 77)) if not held]
+    for c in (0, 1, count // 2, count - 1):
+        for load in (4, 6, 14):
+            profile = with_load(bytes(SYMBOL), at.carriers[free[c]], load)
+            given = Loaded(cases, plans.PLAN_A, 77, profile, c)
+            for size, start in ((1, 0), (1, 2), (1, 4), (1, 5), (2, 2), (2, 3), (2, 4), (2, 8), (3, 7), (3, 9), (3, 10), (3, 11)):
+                want = (0, load) if start + load <= 8 * size else (26, 0)
+                for name in STARTED:
+                    given.call(name, want, numbers=(77, start), stream=rng.randbytes(size))
+            for cell in (0, 1, 2 ** load - 1):
+                given.call('unfill', (0, load), data=with_cell(given.good['data'], c, cell))
+
+
+def stream_grounds(cases):
+    """The order of grounds of fill and unfill, odd data, short answers, and a flush that was handed out."""
+    rng = random.Random(34)
+    for plan, phase in ((plans.PLAN_A, 3), (plans.near_a(M=1), 127)):
+        given = Loaded(cases, plan, phase, some_profile(rng), 34, 2)
+        good, count = given.good['data'], len(given.loads)
+        cases.name('the grounds of streams')
+        high = with_cell(good, 0, 65535)
+        for name in STARTED:
+            for phases in (128, 129, phase + 128, 65536 + phase, TOP):
+                given.call(name, (16, 0), numbers=(phases, 2))
+                given.call(name, (16, 0), numbers=(phases, FAR), data=b'', stream=b'')
+            for data in (b'', good[2:], good[:-2], good + b'\0\0', high[:-2], bytes(2 * given.at.n), bytes(2 * SYMBOL)):
+                given.call(name, (18, 0), data=data)
+                given.call(name, (18, 0), data=data, stream=b'')
+                given.call(name, (18, 0), data=data, numbers=(phase, FAR))
+            given.call(name, (26, 0), data=high, stream=b'')
+            given.call(name, (26, 0), data=b'\x80\x01' * count, numbers=(phase, FAR))
+            for data in (b'\0', good[1:], good + b'\0'):
+                given.call(name, (21,), data=data)
+                given.call(name, (21,), data=data, numbers=(128, FAR), stream=b'', plan=b'')
+            for room in (0, 1, ANSWER - 1):
+                given.call(name, (21,), answer=b'\x5A' * room)
+                given.call(name, (21,), answer=b'\x5A' * room, data=b'\0', stream=b'')
+            given.call(name, (0, given.need), answer=b'\x5A' * 999)
+        given.call('fill', (0, given.need), data=high)                          # 19 is not tried
+        given.call('unfill', (19, 0), data=high)
+        given.call('unfill', (19, 0), data=b'\x80\x01' * count)                 # a flush
+        given.call('unfill', (19, count - 1), data=with_cell(good, count - 1, 0x8001))
+        for mark in (0x8000, 0x8002, 0x8003, 0x8004):
+            given.call('unfill', (19, 1), data=with_cell(good, 1, mark))
+
+
+def stream_run(cases, plan, start, seed, profile, symbols, first):
+    """A stream through a link and back, each symbol's bits from where the last one's ended; a flush now and then, which has none and
+    is refused on the way back."""
+    link = Link(cases, plan, start, seed, profile=profile)
+    m, at, rng = link.at.m, link.at, link.rng
+    inputs = [t % 4 != 2 for t in range(symbols)] + [False] * (m - 1)
+    size = sum(sum(link.loads((start + t) % 128)) for t, is_data in enumerate(inputs) if is_data)
+    stream = rng.randbytes(-(-(first + size) // 8) + 2)
+    back = was = rng.randbytes(len(stream))
+    position = returned = first
+    for t, is_data in enumerate(inputs):
+        if is_data:
+            number, after = cases.call('fill', link.sender[0], position, plan=plan, profile=profile, stream=stream,
+                                       data=some_bytes(rng, cases.model.count(at, link.sender[0])))
+            assert number == 0
+            link.send(data=after['data'])
+            position += value_of(after['answer'])
+        else:
+            link.send(flush=True)
+        data = link.hear()
+        if t >= m - 1:
+            number, after = cases.call('unfill', (start + t - m + 1) % 128, returned, plan=plan, profile=profile, data=data, stream=back)
+            enough = 8 * len(back) - returned >= sum(link.loads((start + t - m + 1) % 128))
+            assert number == (0 if inputs[t - m + 1] else 19 if enough else 26)
+            back, returned = after['stream'], returned + value_of(after['answer'])
+    assert position == returned == first + size
+    assert all_bits(back) == all_bits(was)[:first] + all_bits(stream)[first:position] + all_bits(was)[position:]
+
+
+def stream_runs(cases, depths, large):
+    rng = random.Random(35)
+    for m in depths:
+        for loads in ((14,), LISTED, (0, 0, 6)):
+            cases.name('a stream through a link of depth %d' % m)
+            stream_run(cases, plans.near_a(M=m), 127 - m // 2, m, some_profile(rng, loads), 7, rng.randrange(20))
+    for m in large:
+        cases.name('a stream through a large link of depth %d' % m)
+        stream_run(cases, at_depth(plans.LARGEST, m), 126, m, some_profile(rng), 3, 5)
+
+
 # --- the modulator ---------------------------------------------------------
 
 UNLISTED = (0, 3, 5, 15, 16, 17, 32, 38, 128, 255)
@@ -1005,12 +1325,14 @@ def example(path):
     at, phase = model.layout(plan), 125
     store, symbol = bytes(2 * emitter_length(at.n, at.m)), bytes(2 * SYMBOL)
     store = model.call('fresh_emitter', (phase,), {'plan': plan, 'store': store, 'answer': bytes(ANSWER)})[1]['store']
-    given = {'loads': bytes(6 + k % 9 for k in range(SYMBOL)), 'minus': bytes(k % 2 for k in range(SYMBOL)),
+    profile = bytes(0 if k % 10 == 9 else 6 + k % 9 for k in range(SYMBOL))
+    given = {'loads': bytes(load or 1 for load in profile), 'minus': bytes(k % 2 for k in range(SYMBOL)),
              'numbers': bytes(8 * SYMBOL), 'answer': bytes(ANSWER)}
     for t in range(at.m):
-        data = to_bytes([(t * 4099 + i * 31) % 64 for i in range(model.count(at, phase))])
-        after = model.call('emit', (phase,), {'plan': plan, 'store': store, 'data': data, 'symbol': symbol,
-                                              'answer': bytes(ANSWER)})[1]
+        stream = bytes((t * 77 + i * i * 31 + i // 3) % 256 for i in range(7490))
+        loaded = {'plan': plan, 'profile': profile, 'answer': bytes(ANSWER)}
+        data = model.call('fill', (phase, 0), {**loaded, 'stream': stream, 'data': bytes(2 * model.count(at, phase))})[1]['data']
+        after = model.call('emit', (phase,), {**loaded, 'store': store, 'data': data, 'symbol': symbol})[1]
         store, symbol = after['store'], after['symbol']
         lines = [model.points.on_line(*line) for line in zip(to_cells(symbol), given['loads'], given['minus'])]
         kinds = Counter(line[0] if line[0] != 'pilot' else points.number(line[1]) for line in lines)
@@ -1025,12 +1347,25 @@ def example(path):
           % (returned, int.from_bytes(after['answer'][:4], 'big'), value_of(after['answer'])))
 
 
+def link_example(path):
+    """What examples/link.c prints of a plan."""
+    model, plan = Interface(), open(path, 'rb').read()
+    at, symbols = model.layout(plan), 10
+    profile = bytes((14, 14, 0, 14, 4, 14, 9, 14)[k % 8] for k in range(SYMBOL))
+    bits = sum(sum(model.data_loads(at, profile, (125 + t) % 128)) for t in range(symbols))
+    print('%s: accepted, N_I %d, depth %d' % (path, at.n, at.m))
+    print('both ends started at phase 125, with stores of %d and %d bytes'
+          % tuple(2 * model.places(at, end).length for end in ('emitter', 'receiver')))
+    print('one cell of data alone: refused by 18 at 0, the state still phase 125')
+    print('sent %d symbols of data and %d flushes: %d bits from bit 3 on, came back as sent' % (symbols, at.m - 1, bits))
+
+
 # --- the pages -------------------------------------------------------------
 
 def check_words():
     """docs/C-HOST.md has the header's names of the grounds, with the same words and in their order."""
     header = re.findall(r'/\* ((?:[^*]|\*[^/])*) \*/\n#define HEADEND_REFUSED_(\w+) (\d+)u', HEADER.read_text())
-    assert [(name, int(n)) for _, name, n in header] == [(name, 1 + i) for i, name in enumerate(GROUNDS)]
+    assert [(name, int(n)) for _, name, n in header] == list(NUMBERED.items())
     page = (ROOT / 'docs' / 'C-HOST.md').read_text()
     for words, name, n in header:
         words = ' '.join(words.replace('\n *', ' ').split()).replace(' * ', ' × ')
@@ -1039,21 +1374,49 @@ def check_words():
 
 
 def check_page():
-    """The six answers that docs/C-HOST.md shows."""
+    """The nine answers that docs/C-HOST.md shows, and its example of a stream."""
     model, a, page = Interface(), plans.PLAN_A, (ROOT / 'docs' / 'C-HOST.md').read_text()
     count = model.data_count(a, 126)
-    steps = {'plan': a, 'store': bytes(2 * 636), 'symbol': bytes(2 * SYMBOL)}
+    steps = {'plan': a, 'profile': FULL, 'store': bytes(2 * 636), 'symbol': bytes(2 * SYMBOL)}
     data = bytes(2 * count)
+    filling = {'plan': a, 'profile': FULL, 'stream': bytes(1000), 'data': data}
     line = {'symbol': to_bytes([64 if k == 900 else 0x8002 for k in range(SYMBOL)]), 'loads': bytes([6] * SYMBOL),
             'minus': bytes(SYMBOL), 'numbers': bytes(8 * SYMBOL)}
     for name, numbers, given in (('judge', (), {'plan': a}),
                                  ('judge', (), {'plan': plans.near_a([(850, 854)])}),
                                  ('try', (850, 853), {'plan': a}),
                                  ('emit', (126,), {**steps, 'data': with_cell(data, 7, 16384)}),
-                                 ('emit', (126,), {**steps, 'data': data}), ('modulate', (), line)):
+                                 ('emit', (126,), {**steps, 'data': data}),
+                                 ('emit', (126,), {**steps, 'data': data, 'profile': with_load(FULL, 905, 5)}),
+                                 ('fill', (126, 5), filling), ('fill', (126, 2107), filling), ('modulate', (), line)):
         returned, after = model.call(name, numbers, {**given, 'answer': bytes(ANSWER)})
         shown = '| %d | `%s`' % (returned, after['answer'].hex(' ', 4).upper())
         assert shown in page, 'docs/C-HOST.md should have ' + shown
+    check_stream(page)
+
+
+def check_stream(page):
+    """The example of a stream in docs/C-HOST.md."""
+    model, a, first = Interface(), plans.PLAN_A, bytes.fromhex('B469D2')
+    at = model.layout(a)
+    assert [p for p, held in enumerate(model.placeholders(at, 0)) if not held][:4] == [0, 1, 2, 3]
+    profile = FULL
+    for k, load in zip(at.carriers, (4, 0, 6)):
+        profile = with_load(profile, k, load)
+    bits, start = sum(model.data_loads(at, profile, 0)), 3
+    data, cells = [9] * model.count(at, 0), (6, 0, 19)
+    assert model.fill_symbol(a, profile, 0, first + bytes(999), start, data) == ('bits', bits)
+    assert tuple(data[:3]) == cells
+    said = ['N_D %d data cells' % len(data), 'subcarriers %d, %d and %d' % tuple(at.carriers[:3]), 'takes %s bits' % format(bits, ','),
+            'bytes `%s`' % first.hex(' ').upper(), 'begins `%s`' % to_bytes(cells).hex(' ', 2).upper(),
+            'writes %s bits' % format(bits, ','), 'all from %s on' % format(start + bits, ',')]
+    in_order = ' '.join(map(str, all_bits(first)))
+    said += ['| in their order | %s | | %s | %s .. |' % (in_order[6:13], in_order[14:25], in_order[26:]),
+             '| bits of the stream | 3 to 6 | none | 7 to 12 | 13 to 26 |', '| its value | %d | %d | %d | |' % cells]
+    for words in said:
+        assert words in ' '.join(page.split()), 'docs/C-HOST.md should have ' + words
+    for cell, want in ((1, ('bits', bits)), (2, ('refused', 19, 1))):
+        assert model.unfill_symbol(a, profile, 0, [data[0], cell, *data[2:]], start, bytearray(1000)) == want
 
 
 def check_rows():
@@ -1105,6 +1468,15 @@ def write(path, small):
     modulations(cases, 3 if small else 30, not small)
     refused_lines(cases, (0, 15, 4095) if small else (0, 1, 7, 8, 15, 16, 255, 2047, 2048, 4094, 4095))
     modulate_lengths(cases)
+    profiles(cases, NOT_LOADS[::40] if small else NOT_LOADS)
+    loads_limits(cases, ((plans.PLAN_A, 5),) if small else ((plans.PLAN_A, 0), (plans.near_a([(850, 853)], [900], M=31), 127),
+                                                            (at_depth(plans.LARGEST, 32), 64)))
+    mixed = (plans.near_a(M=3), 125, LISTED)
+    fillings(cases, (mixed,) if small else (mixed, (plans.PLAN_A, 0, (14,)), (plans.PLAN_A, 1, (0, 4)), (plans.near_b(), 64, LISTED),
+                                            (plans.near_a(M=32), 99, (8,)), (plans.PLAN_A, 3, (0,)), (plans.SINGLES_150, 7, LISTED)), 36)
+    no_bits(cases)
+    stream_grounds(cases)
+    stream_runs(cases, (1, 4) if small else (1, 2, 3, 4, 7, 31, 32), () if small else (1, 2, 4))
     any_states(cases, (1, 31) if small else (1, 2, 3, 4, 7, 16, 31, 32))
     runs(cases, (1, 3, 4) if small else range(1, 33), (2,) if small else (1, 2, 3, 4, 7, 31, 32),
          (1, 4) if small else (1, 2, 4, 7), 5 if small else 140)
@@ -1125,6 +1497,8 @@ def main():
         write(arguments[1], True)
     elif len(arguments) == 2 and arguments[0] == '--example':
         example(arguments[1])
+    elif len(arguments) == 2 and arguments[0] == '--link':
+        link_example(arguments[1])
     elif len(arguments) == 1 and not arguments[0].startswith('-'):
         write(arguments[0], False)
     else:

@@ -14,7 +14,7 @@ sanitizers="-g -O1 -fsanitize=address,undefined -fno-sanitize-recover=all"
 
 # The header's names as those of another implementation.
 names() {
-    for call in judge try role data_count fresh_emitter fresh_receiver emit flush receive modulate; do
+    for call in judge try role data_count fresh_emitter fresh_receiver emit flush receive fill unfill modulate; do
         echo "-Dheadend_$call=$1_$call"
     done
 }
@@ -64,15 +64,17 @@ void ignored(uint8_t *b, float *numbers)
     headend_data_count(b, 0, 0, b, 0);
     headend_fresh_emitter(b, 0, 0, b, 0, b, 0);
     headend_fresh_receiver(b, 0, 0, b, 0, b, 0);
-    headend_emit(b, 0, 0, b, 0, b, 0, b, 0, b, 0);
+    headend_emit(b, 0, b, 0, 0, b, 0, b, 0, b, 0, b, 0);
     headend_flush(b, 0, 0, b, 0, b, 0, b, 0);
-    headend_receive(b, 0, 0, 0, b, 0, b, 0, b, 0, b, 0);
+    headend_receive(b, 0, b, 0, 0, 0, b, 0, b, 0, b, 0, b, 0);
+    headend_fill(b, 0, b, 0, 0, b, 0, 0, b, 0, b, 0);
+    headend_unfill(b, 0, b, 0, 0, b, 0, 0, b, 0, b, 0);
     headend_modulate(b, 0, b, 0, b, 0, numbers, 0, b, 0);
 }
 END
     local warned
     warned=$(LC_ALL=C gcc -Iinclude -c "$work/ignored.c" -o "$work/ignored.o" 2>&1 | grep -c 'ignoring return value' || true)
-    [ "$warned" -eq 10 ] || fail "$warned of 10 ignored numbers are warned of"
+    [ "$warned" -eq 12 ] || fail "$warned of 12 ignored numbers are warned of"
 }
 
 # The cases, the two C implementations, wrong programs and wrong headers.
@@ -100,6 +102,8 @@ without_library() {
         gcc -w $(names plain) -I"$header" tests/host.c "$work/plain.o" -o "$work/wrong"
         must_differ "$work/wrong" "$work/small"
     done
+    echo "the examples over plain C"
+    the_examples $(names plain) bench/plain.c
 }
 
 # prints EXAMPLE PLAN SCRIPT OPTION: what an example prints of a plan is what the second model says.
@@ -107,6 +111,19 @@ prints() {
     "$work/$1" "$2" > "$work/said" || fail "examples/$1.c ended with $? on $2"
     python3 "$3" "$4" "$2" | diff - "$work/said" || fail "examples/$1.c prints something else on $2"
     tail -n 1 "$work/said"
+}
+
+# the_examples FLAGS AND OBJECTS: the examples over an implementation.
+the_examples() {
+    for example in link trunks modulate; do
+        gcc $warnings -O2 -Iinclude examples/$example.c "$@" -o "$work/$example"
+        if "$work/$example" plans/refused-14.plan 2> /dev/null; then fail "examples/$example.c took a refused plan"; fi
+    done
+    for plan in plan-a largest no-scattered-64-to-75; do
+        prints link plans/$plan.plan tests/host.py --link
+        prints trunks plans/$plan.plan tests/loss.py --trunks
+        prints modulate plans/$plan.plan tests/host.py --example
+    done
 }
 
 # The library, the examples, and wrong expectations.
@@ -125,15 +142,7 @@ with_library() {
     valgrind -q --error-exitcode=9 "$work/host" "$work/small"
     "$work/host" --stack "$work/small"
     echo "the examples"
-    for example in link trunks modulate; do
-        gcc $warnings -O2 -Iinclude examples/$example.c "$library" -o "$work/$example"
-        if "$work/$example" plans/refused-14.plan 2> /dev/null; then fail "examples/$example.c took a refused plan"; fi
-    done
-    "$work/link" plans/plan-a.plan
-    for plan in plan-a largest no-scattered-64-to-75; do
-        prints trunks plans/$plan.plan tests/loss.py --trunks
-        prints modulate plans/$plan.plan tests/host.py --example
-    done
+    the_examples "$library"
     echo "wrong expectations"
     "$work/host" "$work/straight.cases"
     for cases in "$work"/bent-*.cases; do

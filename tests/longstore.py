@@ -17,7 +17,7 @@ from typing import NamedTuple
 sys.dont_write_bytecode = True
 
 import plans
-from emitter import Given
+from emitter import FULL, Given
 from receiver import Receiver
 
 DEPTHS = (1, 2, 3, 4, 7, 31, 32)
@@ -68,7 +68,7 @@ class Long(Receiver):
         return ('fresh', phase, 0)
 
     def step(self, plan, phase, row, store, data, symbol):
-        refused = self.refusal(plan, Given(phase, store, data, symbol))
+        refused = self.refusal(plan, Given(phase, store, data, symbol, profile=FULL))
         if refused:
             return (*refused, phase, row)
         at = self.layout(plan)
@@ -86,7 +86,7 @@ class Long(Receiver):
 
     def receive(self, plan, phase, row, heard, store, symbol, buffer):
         refused = self.refusal(plan, Given(phase, store, heard=heard, arriving=symbol, buffer=buffer,
-                                           end='receiver'))
+                                           end='receiver', profile=FULL))
         if refused:
             return (*refused, phase, row, heard)
         at = self.layout(plan)

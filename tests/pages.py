@@ -17,6 +17,7 @@ from pathlib import Path
 
 sys.dont_write_bytecode = True
 
+import loads
 import model
 import points
 
@@ -48,8 +49,10 @@ NUMBERS = {
     20: (16383,),
     21: (16,),
     22: (*points.Points.loads[:4], points.Points.loads[-1]),
+    25: (X.last_subcarrier + 1, *loads.LISTED[:3], loads.LISTED[-1]),
+    26: (8,),
 }
-GROUNDS = range(1, 25)
+GROUNDS = range(1, 27)
 
 
 def plan(name):
@@ -89,8 +92,10 @@ def wrong_calls(number, text):
     steps = {'headend_emit', 'headend_flush', 'headend_receive'}
     starts = {'headend_fresh_emitter', 'headend_fresh_receiver'}
     modulate = {'headend_modulate'}
-    wanted = {16: calls() - {'headend_judge', 'headend_try'} - modulate, 17: starts | steps | modulate, 18: {'headend_emit'},
-              19: {'headend_emit'}, 20: {'headend_receive'}, 21: calls(), 22: modulate, 23: modulate, 24: set()}[number]
+    bits = {'headend_fill', 'headend_unfill'}
+    wanted = {16: calls() - {'headend_judge', 'headend_try'} - modulate, 17: starts | steps | modulate, 18: {'headend_emit'} | bits,
+              19: {'headend_emit', 'headend_unfill'}, 20: {'headend_receive'}, 21: calls(), 22: modulate, 23: modulate, 24: set(),
+              25: {'headend_emit', 'headend_receive'} | bits, 26: bits}[number]
     if named == wanted and wanted <= calls():
         return []
     return ['ground %d: other calls: %s' % (number, ' '.join(sorted(named ^ wanted)))]

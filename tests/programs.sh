@@ -1,7 +1,7 @@
 #!/usr/bin/env bash
 # What the programs print and tell where they cannot read or write, as docs/PLANCHECK.md says: input closed, a folder, a read that fails in
 # the middle, output closed or full; and what is no failure: input that ends, that comes in small parts, or that is longer than any plan;
-# and what trycheck makes of the words that it is given, as docs/TRYCHECK.md says.
+# and what trycheck and linkcheck make of the words that they are given, as docs/TRYCHECK.md and docs/LINKCHECK.md say.
 # Needs gcc, and the programs, built by `rt check` or `rt ci`.
 #
 #     tests/programs.sh            the programs of target/bin
@@ -84,13 +84,13 @@ words() {
 }
 
 # each PROGRAM LINES LESS FIRST: on its stored input and words it prints these lines; where the last byte is not read LESS of them, and
-# where nothing is read only FIRST. Other words are ignored by all but trycheck.
+# where nothing is read only FIRST. Other words are ignored by all but trycheck and linkcheck.
 each() {
     local program=$1 given=crates/$1/stdin unread="$1: standard input cannot be read" run
     run="$bin/$program $(words $program)"
     try $run < "$given"
     said "$program" "$2" ''
-    if [ ! -e "crates/$1/args" ]; then
+    if [ ! -e "crates/$1/args" ] && [ "$program" != linkcheck ]; then
         try $run plans/refused-14.plan --help < "$given"
         said "$program with arguments" "$2" ''
     fi
@@ -204,6 +204,61 @@ ranges() {
     unranged --help
 }
 
+# loads FILE LOAD COUNT [PLACE OTHER]: a profile file with so many bytes of this load, one of them another.
+loads() {
+    python3 -c 'import sys
+name, load, count, *other = sys.argv[1:]
+profile = bytearray([int(load)]) * int(count)
+if other:
+    profile[int(other[0])] = int(other[1])
+open(name, "wb").write(profile)' "$work/$@"
+}
+
+# profiled LINES TOLD WORDS ..: linkcheck with these words on Plan A prints these lines, and tells this.
+profiled() {
+    local lines=$1 told=$2
+    shift 2
+    try "$bin/linkcheck" "$@" < plans/plan-a.plan
+    said "linkcheck with the words: $*" "$lines" "$told"
+}
+
+# The profile of linkcheck: all loads, mixed ones, profiles that are refused, files that cannot be read, and more words than one.
+profiles() {
+    local right unread='linkcheck: the file of the load profile cannot be read' expected
+    expected='linkcheck: at most one word is expected, the name of a file with a load profile, as in: linkcheck my.loads'
+    right=$(cat crates/linkcheck/stdout)
+    for load in 0 4 6 7 8 9 10 11 12 13 14; do
+        loads each $load 4096
+        profiled "$right" '' "$work/each"
+        loads each $load 4096 1000 4
+        profiled "$right" '' "$work/each"
+    done
+    python3 -c 'import sys
+open(sys.argv[1], "wb").write(bytes((0, 4, *range(6, 15))[(7 * k + 3) % 11] for k in range(4096)))' "$work/mixed"
+    profiled "$right" '' "$work/mixed"
+    for count in 0 1 4095 4097 70000; do
+        loads wrong 14 $count
+        profiled 'refused 25 0' '' "$work/wrong"
+    done
+    for load in 1 2 3 5 15 255; do
+        loads wrong 14 4096 4095 $load
+        profiled 'refused 25 4095' '' "$work/wrong"
+    done
+    try "$bin/linkcheck" "$work/wrong" < plans/refused-14.plan
+    said 'linkcheck on a refused plan and profile' "$("$bin/plancheck" < plans/refused-14.plan)" ''
+    try "$bin/linkcheck" "$work/mixed" <&-
+    said 'linkcheck with a profile and its input closed' '' 'linkcheck: standard input cannot be read'
+    part 4000 "$bin/linkcheck" "$work/mixed" < plans/plan-a.plan
+    said 'linkcheck where the read of the profile fails' '' "$unread"
+    profiled '' "$unread" "$work/missing"
+    profiled '' "$unread" .
+    profiled '' "$unread" ''
+    profiled '' "$unread" --help
+    profiled '' "$unread" "$(printf '%05000d' 0)"
+    profiled '' "$expected" "$work/mixed" "$work/mixed"
+    profiled '' "$expected" a b c
+}
+
 # A program that is stopped and goes on while it reads has not failed.
 stopped() {
     mkfifo "$work/pipe"
@@ -234,22 +289,23 @@ stack() {
 for program in plancheck trycheck linkcheck; do
     each $program "$(cat crates/$program/stdout)" '' ''
 done
-for program in plancases trycases emitcases receivecases modulatecases; do
+for program in plancases trycases emitcases receivecases fillcases modulatecases; do
     each $program "$(cat crates/$program/stdout)" "$(sed '$d' crates/$program/stdout)" ''
 done
 each rolecases "$(cat crates/rolecases/stdout)" "$(sed '$d' crates/rolecases/stdout)" "$(head -n 1 crates/rolecases/stdout)"
-for program in plancheck trycheck linkcheck plancases trycases rolecases emitcases receivecases pointcases modulatecases; do
+for program in plancheck trycheck linkcheck plancases trycases rolecases emitcases receivecases fillcases pointcases modulatecases; do
     unwritten $program
 done
 for program in plancheck trycheck linkcheck; do
     bench $program
 done
 ranges
+profiles
 stopped
 grep -oE '^- `[a-z]+`: [0-9]+ KiB' docs/PLANCHECK.md | tr -d '`:-' > "$work/stacks"
 while read -r program size unit; do
     stack "$program" "$size"
 done < "$work/stacks"
-[ "$(wc -l < "$work/stacks")" -eq 10 ] || differs 'docs/PLANCHECK.md does not give the stack of ten programs'
+[ "$(wc -l < "$work/stacks")" -eq 11 ] || differs 'docs/PLANCHECK.md does not give the stack of eleven programs'
 [ $differences -eq 0 ] || { echo "programs.sh: $differences differences in $runs runs"; exit 1; }
 echo "programs.sh: $runs runs, all as said"

@@ -1,7 +1,7 @@
 #!/usr/bin/env python3
-"""A second model of the receiver, written from the scope paper and request 03 alone.
+"""A second model of the receiver, written from the scope paper and requests 03 and 07 alone.
 
-It knows the fresh start and one receive step, with grounds 16, 17 and 20 after
+It knows the fresh start and one receive step, with grounds 25, 16, 17 and 20 after
 the plan's own.  The interleavers, the placeholders and N_D are those of the
 emitter's model, on which it stands.  Like that model it is kept plain.
 
@@ -17,11 +17,11 @@ import sys
 sys.dont_write_bytecode = True
 
 import plans
-from emitter import Emitter, Given, emitter_length
+from emitter import FULL, Emitter, Given, emitter_length
 
 
 class Receiver(Emitter):
-    step_order = (16, 17, 18, 19, 20)
+    step_order = (25, 16, 17, 18, 19, 20)
 
     # --- the arriving symbol -----------------------------------------------
 
@@ -36,9 +36,9 @@ class Receiver(Emitter):
             at.marks_at[phase] = [self.mark_at(at, k, phase) for k in range(len(at.marks))]
         return at.marks_at[phase]
 
-    def is_data(self, cell):
-        """Is it data or filler?"""
-        return cell <= self.limits.last_data or cell == self.limits.filler_mark
+    def is_data(self, cell, limit):
+        """Is it data within the limit of the subcarrier's load, or filler?"""
+        return cell <= limit or cell == self.limits.filler_mark
 
     def arriving_cells(self, at, symbol):
         """The N_I arriving cells in cell order, by p."""
@@ -89,8 +89,9 @@ class Receiver(Emitter):
     def ground_20(self, at, given):
         if given.arriving is not None:
             marks = self.marks_at(at, given.phase)
-            for k, (cell, mark) in enumerate(zip(given.arriving, marks)):
-                if cell != mark and (mark is not None or not self.is_data(cell)):
+            limits = {load: self.limit(load) for load in set(given.profile)}
+            for k, (cell, mark, load) in enumerate(zip(given.arriving, marks, given.profile)):
+                if cell != mark and (mark is not None or not self.is_data(cell, limits[load])):
                     return k
         return None
 
@@ -106,12 +107,12 @@ class Receiver(Emitter):
         self.fill(store, [self.limits.filler_mark] * length)
         return ('fresh', phase, 0)
 
-    def receive(self, plan, phase, heard, store, symbol, buffer):
+    def receive(self, plan, phase, heard, store, symbol, buffer, profile=FULL):
         """One step: ('warming', state) or ('data', count, state) with the next phase and
         heard, store and buffer written; or ('refused', number, place, state) with the
         state as given and nothing changed."""
         refused = self.refusal(plan, Given(phase, store, heard=heard, arriving=symbol,
-                                           buffer=buffer, end='receiver'))
+                                           buffer=buffer, end='receiver', profile=profile))
         if refused:
             return (*refused, phase, heard)
         at = self.layout(plan)
@@ -180,7 +181,7 @@ def check_run(plan, start, steps):
 
 
 def check_grounds():
-    """Grounds 16, 17 and 20 in order, at their limits, and nothing changed."""
+    """Grounds 25, 16, 17 and 20 in order, at their limits, and nothing changed."""
     emitter, receiver = Emitter(), Receiver()
     a = plans.PLAN_A
     need = 639
@@ -190,9 +191,9 @@ def check_grounds():
     emitter.step(a, 5, store, None, good)
     count = emitter.data_count(a, 2)    # the symbol handed out is three phases back
 
-    def step(want, phase=5, heard=3, size=need, symbol=good, buffer=4096, plan=a):
+    def step(want, phase=5, heard=3, size=need, symbol=good, buffer=4096, plan=a, profile=FULL):
         lent, given, into = [9] * size, list(symbol), [9] * buffer
-        answer = receiver.receive(plan, phase, heard, lent, given, into)
+        answer = receiver.receive(plan, phase, heard, lent, given, into, profile)
         assert given == symbol
         if want in ('warming', 'data'):
             assert answer[0] == want, answer
@@ -226,6 +227,17 @@ def check_grounds():
             step('data' if cell in fits else (20, k), symbol=with_cell(k, cell))
             step('warming' if cell in fits else (20, k), symbol=with_cell(k, cell), heard=1)
     step((20, 853), symbol=with_cell(853, 16384, with_cell(925, 0)))
+    bad = FULL[:4095] + bytes([15])
+    step((1, 0), plan=b'', profile=b'')
+    for profile, place in ((b'', 0), (FULL[1:], 0), (FULL + FULL[:1], 0), (bad, 4095)):
+        step((25, place), profile=profile)
+        step((25, place), profile=profile, phase=128, heard=4, size=0, symbol=wrong[1:], buffer=0)
+    for load in receiver.loads:
+        profile, most = FULL[:853] + bytes([load]) + FULL[854:], receiver.limit(load)
+        for cell in (0, 1, most, 0x8001):
+            step('data', profile=profile, symbol=with_cell(853, cell))
+        step((20, 853), profile=profile, symbol=with_cell(853, most + 1))
+        step((20, 853), profile=profile, symbol=with_cell(853, most + 1, with_cell(854, 16384)))
     assert receiver.listen(a, 128, []) == ('refused', 16, 0)
     assert receiver.listen(a, 127, [9] * (need - 1)) == ('refused', 17, 0)
     assert receiver.listen(a, 127, [9] * need) == ('fresh', 127, 0)

@@ -722,11 +722,11 @@ def holds(ground, test):
 def order_mutants():
     for order in permutations((16, 17, 20)):
         if order != (16, 17, 20):
-            yield 'order: %d, %d, %d' % order, bent(step_order=order)
+            yield 'order: %d, %d, %d' % order, bent(step_order=(25, *order))
     for ground in (16, 17, 20):
         name = 'ground_%d' % ground
         yield 'ground %d not tried' % ground, bent(
-            step_order=tuple(x for x in (16, 17, 20) if x != ground))
+            step_order=tuple(x for x in (25, 16, 17, 20) if x != ground))
         yield 'place of %d one higher' % ground, bent(**{
             name: lambda self, at, given, name=name:
             None if getattr(Receiver, name)(self, at, given) is None
@@ -864,7 +864,7 @@ def cell_mutants():
             return []
         marks = self.marks_at(at, given.phase)
         return [k for k, (cell, mark) in enumerate(zip(given.arriving, marks))
-                if cell != mark and (mark is not None or not self.is_data(cell))]
+                if cell != mark and (mark is not None or not self.is_data(cell, 16383))]
 
     def found(place):
         """Ground 20 with another place: of the model, the layout, what is given and
@@ -918,9 +918,9 @@ def cell_mutants():
                 return next((k for k in bad if self.marks_at(at, g.phase)[k] != mark
                              or g.arriving[k] != cell), None)
             yield 'ground 20: %d good where %s' % (cell, role), found(but)
-    yield 'ground 20: filler bad', bent(is_data=lambda self, cell: cell < 16384)
-    yield 'ground 20: 16383 bad', bent(is_data=lambda self, cell: cell < 16383 or cell == 0x8001)
-    yield 'ground 20: data 0 bad', bent(is_data=lambda self, cell: Total.is_data(self, cell)
+    yield 'ground 20: filler bad', bent(is_data=lambda self, cell, limit: cell <= limit)
+    yield 'ground 20: 16383 bad', bent(is_data=lambda self, cell, limit: cell < limit or cell == 0x8001)
+    yield 'ground 20: data 0 bad', bent(is_data=lambda self, cell, limit: Total.is_data(self, cell, limit)
                                         and cell != 0)
     yield 'ground 20: any mark for another', bent(
         ground_20=lambda self, at, g: next(

@@ -1,2 +1,1 @@
 pub mod Expecting
-pub mod Ordered

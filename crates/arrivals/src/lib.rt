@@ -1,14 +1,16 @@
 // What arrives: the lowest subcarrier whose cell is not what its role asks for (ground 20), and the arriving cells in cell order. The test
 // counts the cells that fit, without a branch to leave by, and looks for the wrong one only where some do not.
 ghost use mathlib.Core.Path.{_≡_};
-ghost use mathlib.Core.Bool.{not};
+ghost use mathlib.Core.Bool.{true, not};
 ghost use Prim.Native.Nat.{ℕ, _≤_, _<_};
 ghost use lib.ListN.{length, getD};
 ghost use Rattle.counting.specs.Search.{bit, count, lowest};
 ghost use Rattle.counting.specs.Answer.{placeOf};
+ghost use Rattle.rules.specs.declared.Finding.the-variants.{Fine};
 ghost use Rattle.rules.specs.Plan.{planOf};
 ghost use Rattle.rules.specs.Fits.{Fits};
 ghost use Rattle.rules.specs.Frame.{frameOf, cells, spot, lineCells};
+ghost use Rattle.rules.specs.Loads.{ground25, limitAt};
 ghost use Rattle.rules.specs.Receive.{wrongCell};
 ghost use Rattle.verdicts.specs.Studied.{Studied};
 ghost use Rattle.arrivals.specs.Expected.{allowed, allowedAt, scatteredMark, expected};
@@ -25,14 +27,11 @@ const PLACEHOLDER: u16 = 0x8000;
 // The mark of filler.
 const FILLER: u16 = 0x8001;
 
-// Data is 0 to 16383.
-const TOP_DATA: u16 = 16383;
-
 // The mark of a subcarrier where the scattered pattern stands: a placeholder if it has a rank.
-fn scattered_mark(w: u16) -> u16
-    ensures { λ r. ⌜ r ≡ scatteredMark w ⌝ }
+fn scattered_mark(mark: u16) -> u16
+    ensures { λ r. ⌜ r ≡ scatteredMark mark ⌝ }
 {
-    if w == 0 { PLACEHOLDER } else { w }
+    if mark == 0 { PLACEHOLDER } else { mark }
 }
 
 // Puts the scattered pilots among the marks: on the subcarriers that are `base` modulo 128.
@@ -47,12 +46,12 @@ fn scatter(marks: &mut [u16], width: usize, base: usize)
     }
 }
 
-// 1 for a cell x that the mark w allows, else 0.
-fn cell_fits(w: u16, x: u16) -> u16
-    ensures { λ r. ⌜ r ≡ bit (allowed w x) ⌝ }
+// 1 for a cell that the limit and the mark allow, else 0.
+fn cell_fits(limit: u16, mark: u16, x: u16) -> u16
+    ensures { λ r. ⌜ r ≡ bit (allowed limit mark x) ⌝ }
 {
-    if w == 0 {
-        if x <= TOP_DATA {
+    if mark == 0 {
+        if x <= limit {
             return 1;
         }
         if x == FILLER {
@@ -60,34 +59,63 @@ fn cell_fits(w: u16, x: u16) -> u16
         }
         return 0;
     }
-    if x == w {
+    if x == mark {
         return 1;
     }
     0
 }
 
-// How many cells of the symbol fit.
-fn fitting_cells(marks: &[u16], symbol: &[u16]) -> u16
+// Whether all cells of the symbol fit under one limit.
+fn all_fit(limit: u16, marks: &[u16], symbol: &[u16]) -> bool
     requires { ⌜ (length (now symbol) ≤ 4096) × (length (now symbol) ≤ length (now marks)) ⌝ }
-    ensures { λ r. ⌜ r ≡ count (allowedAt (now (marks .entry)) (now (symbol .entry))) (length (now (symbol .entry))) ⌝ }
+    ensures { λ r. ⌜ (r ≡ true → (k : ℕ) → k < length (now (symbol .entry)) → allowed limit (getD (now (marks .entry)) k 0) (getD (now (symbol .entry)) k 0) ≡ true) ⌝ }
 {
     let mut n: u16 = 0;
     let mut k: usize = 0;
     while k < symbol.len() {
-        n = n + cell_fits(marks[k], symbol[k]);
+        n = n + cell_fits(limit, marks[k], symbol[k]);
+        k = k + 1;
+    }
+    wide(n) == symbol.len()
+}
+
+// Whether all loads are the same, and all cells fit under their limit: then no limit is looked up.
+fn fit_one_load(profile: &[u8], marks: &[u16], symbol: &[u16]) -> bool
+    requires { ⌜ (length (now symbol) ≤ 4096) × (length (now symbol) ≤ length (now profile)) × (length (now symbol) ≤ length (now marks)) ⌝ }
+    ensures { λ r. ⌜ (r ≡ true → (k : ℕ) → k < length (now (symbol .entry)) → allowed (limitAt (now (profile .entry)) k) (getD (now (marks .entry)) k 0) (getD (now (symbol .entry)) k 0) ≡ true) ⌝ }
+{
+    let range = profiles::load_range(profile);
+    if range.low != range.high {
+        return false;
+    }
+    if 14 < range.low {
+        return false;
+    }
+    all_fit(profiles::limit_of(range.low), marks, symbol)
+}
+
+// How many cells of the symbol fit.
+fn fitting_cells(limits: &[u16], marks: &[u16], symbol: &[u16]) -> u16
+    requires { ⌜ (length (now symbol) ≤ 4096) × (length (now symbol) ≤ length (now limits)) × (length (now symbol) ≤ length (now marks)) ⌝ }
+    ensures { λ r. ⌜ r ≡ count (allowedAt (now (limits .entry)) (now (marks .entry)) (now (symbol .entry))) (length (now (symbol .entry))) ⌝ }
+{
+    let mut n: u16 = 0;
+    let mut k: usize = 0;
+    while k < symbol.len() {
+        n = n + cell_fits(limits[k], marks[k], symbol[k]);
         k = k + 1;
     }
     n
 }
 
 // The lowest subcarrier whose cell does not fit, by looking at one after the other.
-fn search_wrong(marks: &[u16], symbol: &[u16]) -> Found
-    requires { ⌜ (length (now symbol) ≤ 4096) × (length (now symbol) ≤ length (now marks)) ⌝ }
-    ensures { λ r. ⌜ placeOf r ≡ lowest (λ k. not (allowedAt (now (marks .entry)) (now (symbol .entry)) k)) (length (now (symbol .entry))) ⌝ }
+fn search_wrong(limits: &[u16], marks: &[u16], symbol: &[u16]) -> Found
+    requires { ⌜ (length (now symbol) ≤ 4096) × (length (now symbol) ≤ length (now limits)) × (length (now symbol) ≤ length (now marks)) ⌝ }
+    ensures { λ r. ⌜ placeOf r ≡ lowest (λ k. not (allowedAt (now (limits .entry)) (now (marks .entry)) (now (symbol .entry)) k)) (length (now (symbol .entry))) ⌝ }
 {
     let mut place: usize = 0;
     while place < symbol.len() {
-        if cell_fits(marks[place], symbol[place]) == 0 {
+        if cell_fits(limits[place], marks[place], symbol[place]) == 0 {
             return Found::At(place as u32);
         }
         place = place + 1;
@@ -96,31 +124,39 @@ fn search_wrong(marks: &[u16], symbol: &[u16]) -> Found
 }
 
 // The lowest subcarrier whose cell does not fit.
-fn first_wrong(marks: &[u16], symbol: &[u16]) -> Found
-    requires { ⌜ (length (now symbol) ≤ 4096) × (length (now symbol) ≤ length (now marks)) ⌝ }
-    ensures { λ r. ⌜ placeOf r ≡ lowest (λ k. not (allowedAt (now (marks .entry)) (now (symbol .entry)) k)) (length (now (symbol .entry))) ⌝ }
+fn first_wrong(limits: &[u16], marks: &[u16], symbol: &[u16]) -> Found
+    requires { ⌜ (length (now symbol) ≤ 4096) × (length (now symbol) ≤ length (now limits)) × (length (now symbol) ≤ length (now marks)) ⌝ }
+    ensures { λ r. ⌜ placeOf r ≡ lowest (λ k. not (allowedAt (now (limits .entry)) (now (marks .entry)) (now (symbol .entry)) k)) (length (now (symbol .entry))) ⌝ }
 {
-    let n = fitting_cells(marks, symbol);
+    let n = fitting_cells(limits, marks, symbol);
     if wide(n) == symbol.len() {
         return Found::Nothing;
     }
-    search_wrong(marks, symbol)
+    search_wrong(limits, marks, symbol)
 }
 
-// The lowest subcarrier whose arriving cell is not what its role at phase j asks for. The marks are used up.
+// The lowest subcarrier whose arriving cell is not what its role at phase j asks for, data up to the limits of the profile. The marks are
+// used up.
 pub fn wrong_cell(
     d: Device,
     plan: &[u8],
     marks: &mut [u16; 4096],
+    profile: &[u8],
     j: usize,
     symbol: &[u16],
 ) -> Found
-    requires { ⌜ Fits d × Studied d (now plan) (now marks) × (j ≤ 4096) × (length (now symbol) ≡ d .subcarriers) ⌝ }
-    ensures { λ r. ⌜ placeOf r ≡ lowest (wrongCell (frameOf d (planOf (now (plan .entry)))) j (now (symbol .entry))) (d .subcarriers) ⌝ }
+    requires { ⌜ Fits d × Studied d (now plan) (now marks) × (j ≤ 4096) × (length (now symbol) ≡ d .subcarriers) × (ground25 (d .subcarriers) (now profile) ≡ Fine) ⌝ }
+    ensures { λ r. ⌜ placeOf r ≡ lowest (wrongCell (frameOf d (planOf (now (plan .entry)))) (now (profile .entry)) j (now (symbol .entry))) (d .subcarriers) ⌝ }
 {
     let l = records::number_at(plan, 4);
     scatter(marks, d.subcarriers, (l + d.plcWidth + j) % PHASES);
-    first_wrong(marks, symbol)
+    if fit_one_load(profile, marks, symbol) {
+        return Found::Nothing;
+    }
+    let n = profile.len();
+    let mut limits = [0u16; 4096];
+    profiles::limits(profile, &mut limits[..n]);
+    first_wrong(&limits[..n], marks, symbol)
 }
 
 // The arriving cells in cell order, from the subcarriers of the cells.

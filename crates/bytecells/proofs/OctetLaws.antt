@@ -11,7 +11,8 @@ use lib.Seq.{sets}
 use borrow.Author.Tests.{eqb-false}
 use Rattle.counting.specs.Search.{tabulate}
 use Rattle.counting.proofs.Lists.{length-tabulate, getD-tabulate, tabulate-cong, is-tabulate}
-use Rattle.bytecells.specs.Octets.{cellsOf, bytesOf, odd, Octets, Whole}
+use Rattle.counting.specs.Bytes.{Octets}
+use Rattle.bytecells.specs.Octets.{cellsOf, bytesOf, odd, Whole}
 use Rattle.bytecells.specs.Swapped.{lowFirst, swapped}
 
 -- two bytes more

@@ -21,10 +21,6 @@ bytesOf (x ∷ c) = (x / 256) ∷ (x % 256) ∷ bytesOf c
 unfoldable pub odd : List ℕ → Bool
 odd b = eqb (length b % 2) 1
 
--- every number is a byte's
-abbrev pub Octets : List ℕ → Type 0
-Octets b = (i : ℕ) → i < length b → getD b i 0 < 256
-
 -- the bytes of whole cells: what reads as cells and is written again is the same
 abbrev pub Whole : List ℕ → Type 0
 Whole b = bytesOf (cellsOf b) ≡ b

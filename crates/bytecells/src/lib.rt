@@ -5,32 +5,16 @@ ghost use mathlib.Core.Bool.{false};
 ghost use Prim.Native.Nat.{_+_, _*_, _≤_, _<_};
 ghost use lib.ListN.{length, getD, take};
 ghost use Rattle.counting.specs.Search.{tabulate};
-ghost use Rattle.bytecells.specs.Octets.{cellsOf, odd, Octets, Whole};
+ghost use Rattle.counting.specs.Bytes.{Octets};
+ghost use Rattle.bytecells.specs.Octets.{cellsOf, odd, Whole};
 ghost use Rattle.bytecells.specs.Swapped.{lowFirst, swapped};
+use counting::octets;
 
 // The cell of two bytes.
 pub fn join(high: u8, low: u8) -> u16
     ensures { λ r. ⌜ r ≡ high * 256 + low ⌝ }
 {
     (high as u16) * 256 + (low as u16)
-}
-
-// A byte, which is below 256.
-fn octet(x: u8) -> u8
-    ensures { λ r. ⌜ (r ≡ x) × (r < 256) ⌝ }
-{
-    x
-}
-
-// Shows that every number of a list of bytes is a byte's. It changes nothing and answers nothing, and the compiler drops it.
-fn octets(b: &[u8])
-    ensures { λ _. ⌜ Octets (now (b .entry)) ⌝ }
-{
-    let mut i = 0;
-    while i < b.len() {
-        octet(b[i]);
-        i += 1;
-    }
 }
 
 // Whether the bytes have odd length (ground 21); else they are those of whole cells.

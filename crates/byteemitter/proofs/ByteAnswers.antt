@@ -30,15 +30,6 @@ module _ (d : Device) (s : List ℕ) (e : EmitterState) (store room : List ℕ) 
   tested : Bool → Sending → Sending
   tested t left = pick t (leaves (Refused 21 0 e) store room) (sentBytes left)
 
-  module _ (ds : List ℕ) where
-    pub emit-odd : (odd store || odd ds || odd room) ≡ true → leaves (Refused 21 0 e) store room ≡ emitBytes d s e store ds room
-    unfolding emitBytes tested
-    emit-odd h = sym (ap (λ (t : Bool). tested t (emitStep d s e (cellsOf store) (cellsOf ds) (cellsOf room))) h)
-
-    pub emit-whole : (odd store || odd ds || odd room) ≡ false → sentBytes (emitStep d s e (cellsOf store) (cellsOf ds) (cellsOf room)) ≡ emitBytes d s e store ds room
-    unfolding emitBytes tested
-    emit-whole h = sym (ap (λ (t : Bool). tested t (emitStep d s e (cellsOf store) (cellsOf ds) (cellsOf room))) h)
-
   pub flush-odd : (odd store || odd room) ≡ true → leaves (Refused 21 0 e) store room ≡ flushBytes d s e store room
   unfolding flushBytes tested
   flush-odd h = sym (ap (λ (t : Bool). tested t (flushStep d s e (cellsOf store) (cellsOf room))) h)
@@ -46,3 +37,12 @@ module _ (d : Device) (s : List ℕ) (e : EmitterState) (store room : List ℕ) 
   pub flush-whole : (odd store || odd room) ≡ false → sentBytes (flushStep d s e (cellsOf store) (cellsOf room)) ≡ flushBytes d s e store room
   unfolding flushBytes tested
   flush-whole h = sym (ap (λ (t : Bool). tested t (flushStep d s e (cellsOf store) (cellsOf room))) h)
+
+module _ (d : Device) (s w : List ℕ) (e : EmitterState) (store room ds : List ℕ) where
+  pub emit-odd : (odd store || odd ds || odd room) ≡ true → leaves (Refused 21 0 e) store room ≡ emitBytes d s w e store ds room
+  unfolding emitBytes tested
+  emit-odd h = sym (ap (λ (t : Bool). tested d s e store room t (emitStep d s w e (cellsOf store) (cellsOf ds) (cellsOf room))) h)
+
+  pub emit-whole : (odd store || odd ds || odd room) ≡ false → sentBytes (emitStep d s w e (cellsOf store) (cellsOf ds) (cellsOf room)) ≡ emitBytes d s w e store ds room
+  unfolding emitBytes tested
+  emit-whole h = sym (ap (λ (t : Bool). tested d s e store room t (emitStep d s w e (cellsOf store) (cellsOf ds) (cellsOf room))) h)

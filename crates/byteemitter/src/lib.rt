@@ -27,10 +27,11 @@ fn place(d: Device, plan: &[u8], marks: &[u16; 4096], car: &[u16], x: &[u16], sy
     bytewrite::write_cells(symbol, 0, &out);
 }
 
-// An emit or flush step of bytes of whole cells; a flush reads no input. Where no ground refuses it, the input symbol goes to the places of
-// its cells, and the delayed cells go out on their subcarriers.
+// An emit or flush step of bytes of whole cells; a flush reads no profile and no input. Where no ground refuses it, the input symbol goes to
+// the places of its cells, and the delayed cells go out on their subcarriers.
 fn send(
     plan: &[u8],
+    profile: &[u8],
     flushing: bool,
     state: EmitterState,
     store: &mut [u8],
@@ -38,7 +39,7 @@ fn send(
     symbol: &mut [u8],
 ) -> SendAnswer
     requires { ⌜ Whole (now store) × Whole (now input) × Whole (now symbol) ⌝ }
-    ensures { λ r. ⌜ leaves r (now (store .exit)) (now (symbol .exit)) ≡ sentBytes (stepBy khz50 (now (plan .entry)) flushing state (cellsOf (now (store .entry))) (cellsOf (now (input .entry))) (cellsOf (now (symbol .entry)))) ⌝ }
+    ensures { λ r. ⌜ leaves r (now (store .exit)) (now (symbol .exit)) ≡ sentBytes (stepBy khz50 (now (plan .entry)) (now (profile .entry)) flushing state (cellsOf (now (store .entry))) (cellsOf (now (input .entry))) (cellsOf (now (symbol .entry)))) ⌝ }
 {
     let d = rules::khz50_device();
     let mut given = [0u16; 4096];
@@ -49,6 +50,7 @@ fn send(
     match sendgrounds::admit(
         d,
         plan,
+        profile,
         flushing,
         state,
         store.len() / 2,
@@ -70,15 +72,16 @@ fn send(
     }
 }
 
-// An emit step: the input goes to the places of its cells as an input symbol, and one symbol on the line is sent.
+// An emit step under a load profile: the input goes to the places of its cells as an input symbol, and one symbol on the line is sent.
 pub fn emit(
     plan: &[u8],
+    profile: &[u8],
     state: EmitterState,
     store: &mut [u8],
     input: &[u8],
     symbol: &mut [u8],
 ) -> SendAnswer
-    ensures { λ r. ⌜ leaves r (now (store .exit)) (now (symbol .exit)) ≡ emitBytes khz50 (now (plan .entry)) state (now (store .entry)) (now (input .entry)) (now (symbol .entry)) ⌝ }
+    ensures { λ r. ⌜ leaves r (now (store .exit)) (now (symbol .exit)) ≡ emitBytes khz50 (now (plan .entry)) (now (profile .entry)) state (now (store .entry)) (now (input .entry)) (now (symbol .entry)) ⌝ }
 {
     if bytecells::halved(store) {
         return SendAnswer::Refused(21, 0, state);
@@ -89,10 +92,10 @@ pub fn emit(
     if bytecells::halved(symbol) {
         return SendAnswer::Refused(21, 0, state);
     }
-    send(plan, false, state, store, input, symbol)
+    send(plan, profile, false, state, store, input, symbol)
 }
 
-// A flush step: the same with filler in every data cell.
+// A flush step: the same with filler in every data cell, and without a profile.
 pub fn flush(plan: &[u8], state: EmitterState, store: &mut [u8], symbol: &mut [u8]) -> SendAnswer
     ensures { λ r. ⌜ leaves r (now (store .exit)) (now (symbol .exit)) ≡ flushBytes khz50 (now (plan .entry)) state (now (store .entry)) (now (symbol .entry)) ⌝ }
 {
@@ -102,6 +105,15 @@ pub fn flush(plan: &[u8], state: EmitterState, store: &mut [u8], symbol: &mut [u
     if bytecells::halved(symbol) {
         return SendAnswer::Refused(21, 0, state);
     }
-    let none = [0u8; 1];
-    send(plan, true, state, store, &none[..0], symbol)
+    let no_profile = [0u8; 1];
+    let no_data = [0u8; 1];
+    send(
+        plan,
+        &no_profile[..0],
+        true,
+        state,
+        store,
+        &no_data[..0],
+        symbol,
+    )
 }

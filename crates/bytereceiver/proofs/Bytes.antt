@@ -27,13 +27,13 @@ taken-fills flag x g e = sets-all g (takenData flag x) (sym e ∙ sym (length-ta
 
 -- ---- ground 21
 
-module _ (d : Device) (s : List ℕ) (v : ReceiverState) (store y b : List ℕ) where
+module _ (d : Device) (s w : List ℕ) (v : ReceiverState) (store y b : List ℕ) where
   -- refused by 21
-  pub refused-odd : (odd store || odd y || odd b) ≡ true → hears (Refused 21 0 v) store b ≡ receiveBytes d s v store y b
+  pub refused-odd : (odd store || odd y || odd b) ≡ true → hears (Refused 21 0 v) store b ≡ receiveBytes d s w v store y b
   unfolding receiveBytes
   refused-odd e = rw e refl
 
   -- left to the grounds from 1 on
-  pub left-whole : (odd store || odd y || odd b) ≡ false → heardBytes (receiveStep d s v (cellsOf store) (cellsOf y) (cellsOf b)) ≡ receiveBytes d s v store y b
+  pub left-whole : (odd store || odd y || odd b) ≡ false → heardBytes (receiveStep d s w v (cellsOf store) (cellsOf y) (cellsOf b)) ≡ receiveBytes d s w v store y b
   unfolding receiveBytes
   left-whole e = rw e refl

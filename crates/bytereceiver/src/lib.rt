@@ -3,6 +3,7 @@
 // leaves as it was.
 ghost use mathlib.Core.Path.{_≡_};
 ghost use mathlib.Core.Bool.{false, _||_};
+ghost use mathlib.Core.List.{[]};
 ghost use Prim.Native.Nat.{_*_, _≤_, _<_};
 ghost use lib.ListN.{length};
 ghost use lib.Seq.{sets};
@@ -55,8 +56,8 @@ fn hand_out(cells: &[u16], flag: &[u8], nd: usize, buffer: &mut [u8])
     bytewrite::write_cells(buffer, 0, &given[..nd]);
 }
 
-// A step that no ground refuses, with nd data cells to hand out: kc are the subcarriers of the n cells, flag the flags of the placeholders
-// of the input symbol that is handed out, y the arriving cells.
+// A step that no ground refuses, which reads no profile any more, with nd data cells to hand out: kc are the subcarriers of the n cells,
+// flag the flags of the placeholders of the input symbol that is handed out, y the arriving cells.
 fn hear(
     d: Device,
     plan: &[u8],
@@ -70,8 +71,8 @@ fn hear(
     store: &mut [u8],
     buffer: &mut [u8],
 ) -> ReceiveAnswer
-    requires { ⌜ Fits d × Whole (now store) × Whole (now buffer) × ReceiveInOrder (frameOf d (planOf (now plan))) (record { state = state; store = cellsOf (now store) }) (record { symbol = now y; buffer = cellsOf (now buffer) }) m n nd × Prepared (frameOf d (planOf (now plan))) (outPhase (frameOf d (planOf (now plan))) (state .phase)) (now kc) (now flag) ⌝ }
-    ensures { λ r. ⌜ hears r (now (store .exit)) (now (buffer .exit)) ≡ heardBytes (received (frameOf d (planOf (now (plan .entry)))) (record { state = state; store = cellsOf (now (store .entry)) }) (record { symbol = now (y .entry); buffer = cellsOf (now (buffer .entry)) })) ⌝ }
+    requires { ⌜ Fits d × Whole (now store) × Whole (now buffer) × ReceiveInOrder (frameOf d (planOf (now plan))) (record { state = state; store = cellsOf (now store) }) (record { profile = []; symbol = now y; buffer = cellsOf (now buffer) }) m n nd × Prepared (frameOf d (planOf (now plan))) (outPhase (frameOf d (planOf (now plan))) (state .phase)) (now kc) (now flag) ⌝ }
+    ensures { λ r. ⌜ hears r (now (store .exit)) (now (buffer .exit)) ≡ heardBytes (received (frameOf d (planOf (now (plan .entry)))) (record { state = state; store = cellsOf (now (store .entry)) }) (record { profile = []; symbol = now (y .entry); buffer = cellsOf (now (buffer .entry)) })) ⌝ }
 {
     let mut x = [0u16; 4096];
     take_in(d, plan, m, kc, y, store, &mut x[..n]);
@@ -86,13 +87,14 @@ fn hear(
 // A receive step over bytes of whole cells.
 fn receive_whole(
     plan: &[u8],
+    profile: &[u8],
     state: ReceiverState,
     store: &mut [u8],
     symbol: &[u8],
     buffer: &mut [u8],
 ) -> ReceiveAnswer
     requires { ⌜ Whole (now store) × Whole (now symbol) × Whole (now buffer) ⌝ }
-    ensures { λ r. ⌜ hears r (now (store .exit)) (now (buffer .exit)) ≡ heardBytes (receiveStep khz50 (now (plan .entry)) state (cellsOf (now (store .entry))) (cellsOf (now (symbol .entry))) (cellsOf (now (buffer .entry)))) ⌝ }
+    ensures { λ r. ⌜ hears r (now (store .exit)) (now (buffer .exit)) ≡ heardBytes (receiveStep khz50 (now (plan .entry)) (now (profile .entry)) state (cellsOf (now (store .entry))) (cellsOf (now (symbol .entry))) (cellsOf (now (buffer .entry)))) ⌝ }
 {
     let d = rules::khz50_device();
     let mut y = [0u16; 4096];
@@ -102,6 +104,7 @@ fn receive_whole(
     match receivegrounds::admit(
         d,
         plan,
+        profile,
         state,
         store.len() / 2,
         width,
@@ -117,18 +120,20 @@ fn receive_whole(
     }
 }
 
-// A receive step: the store takes in the arriving cells, and the data of the input symbol M - 1 steps back is handed out.
+// A receive step under a load profile: the store takes in the arriving cells, and the data of the input symbol M - 1 steps back is handed
+// out.
 pub fn receive(
     plan: &[u8],
+    profile: &[u8],
     state: ReceiverState,
     store: &mut [u8],
     symbol: &[u8],
     buffer: &mut [u8],
 ) -> ReceiveAnswer
-    ensures { λ r. ⌜ hears r (now (store .exit)) (now (buffer .exit)) ≡ receiveBytes khz50 (now (plan .entry)) state (now (store .entry)) (now (symbol .entry)) (now (buffer .entry)) ⌝ }
+    ensures { λ r. ⌜ hears r (now (store .exit)) (now (buffer .exit)) ≡ receiveBytes khz50 (now (plan .entry)) (now (profile .entry)) state (now (store .entry)) (now (symbol .entry)) (now (buffer .entry)) ⌝ }
 {
     if some_halved(store, symbol, buffer) {
         return ReceiveAnswer::Refused(21, 0, state);
     }
-    receive_whole(plan, state, store, symbol, buffer)
+    receive_whole(plan, profile, state, store, symbol, buffer)
 }

@@ -22,7 +22,7 @@ unfoldable pub readReceiver : Receiver → Receiver
 readReceiver v = record { state = v .state; store = cellsOf (v .store) }
 
 unfoldable pub readArrival : Arrival → Arrival
-readArrival a = record { symbol = cellsOf (a .symbol); buffer = cellsOf (a .buffer) }
+readArrival a = record { profile = a .profile; symbol = cellsOf (a .symbol); buffer = cellsOf (a .buffer) }
 
 readReceiving : Receiving → Receiving
 readReceiving r = hears (r .answer) (cellsOf (r .store)) (cellsOf (r .buffer))

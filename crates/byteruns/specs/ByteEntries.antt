@@ -1,4 +1,4 @@
--- The entries over two-byte cells, as a run steps through them (request 01): the functions that their contracts cite. Assumes nothing.
+-- The entries over two-byte cells, as a run steps through them (requests 01 and 07): the functions that their contracts cite. Assumes nothing.
 use Prim.Native.Nat.{ℕ}
 use mathlib.Core.Path.{_≡_}
 use mathlib.Core.Bool.{false, not}
@@ -7,25 +7,35 @@ use Rattle.rules.specs.declared.Device.{Device}
 use Rattle.rules.specs.Frame.{Given, flush, symbol}
 use Rattle.rules.specs.Steps.{Emitter, Send, Sending}
 use Rattle.rules.specs.Receive.{Receiver, Arrival, Receiving}
-use Rattle.bytecells.specs.Octets.{cellsOf, bytesOf, odd, Octets}
-use Rattle.bytecells.specs.ByteSteps.{startBytes, listenBytes, emitBytes, flushBytes, receiveBytes}
+use Rattle.counting.specs.Bytes.{Octets}
+use Rattle.bytecells.specs.Octets.{cellsOf, bytesOf, odd}
+use Rattle.bytecells.specs.ByteSteps.{startBytes, listenBytes, emitBytes, flushBytes, receiveBytes, fillBytes, unfillBytes}
 use Rattle.runs.specs.Run.{Entries, sendings, sent}
 
 module _ (d : Device) (s : List ℕ) where
-  -- an emit or a flush step, by what is given, in the lent symbol
-  abbrev pub sendGiven : Emitter → List ℕ → Given → Sending
-  sendGiven e room flush = flushBytes d s (e .state) (e .store) room
-  sendGiven e room (symbol ds) = emitBytes d s (e .state) (e .store) ds room
+  -- an emit or a flush step, by what is given, under a load profile and in the lent symbol; a flush is given no profile
+  abbrev pub sendGiven : Emitter → List ℕ → List ℕ → Given → Sending
+  sendGiven e w room flush = flushBytes d s (e .state) (e .store) room
+  sendGiven e w room (symbol ds) = emitBytes d s w (e .state) (e .store) ds room
 
   abbrev pub sendBytes : Emitter → Send → Sending
-  sendBytes e a = sendGiven e (a .room) (a .given)
+  sendBytes e a = sendGiven e (a .profile) (a .room) (a .given)
 
   abbrev pub hearBytes : Receiver → Arrival → Receiving
-  hearBytes v a = receiveBytes d s (v .state) (v .store) (a .symbol) (a .buffer)
+  hearBytes v a = receiveBytes d s (a .profile) (v .state) (v .store) (a .symbol) (a .buffer)
 
   -- a list of bytes is one of whole cells if its length is even
   abbrev pub byteEntries : Entries
-  byteEntries = record { start = startBytes d s; send = sendBytes; listen = listenBytes d s; hear = hearBytes; whole = λ b. not (odd b); read = cellsOf }
+  byteEntries = record {
+    start = startBytes d s;
+    send = sendBytes;
+    listen = listenBytes d s;
+    hear = hearBytes;
+    fill = fillBytes d s;
+    unfill = unfillBytes d s;
+    whole = λ b. not (odd b);
+    read = cellsOf;
+  }
 
   -- the claims speak of the cells of the symbols sent; the bytes that the steps left are the bytes of those cells, and no others
   abbrev pub BytesSent : Type 0

@@ -14,6 +14,8 @@ use Rattle.rules.specs.declared.SendAnswer.{SendAnswer}
 use Rattle.rules.specs.declared.SendAnswer.the-variants as a-send
 use Rattle.rules.specs.declared.ReceiveAnswer.{ReceiveAnswer}
 use Rattle.rules.specs.declared.ReceiveAnswer.the-variants as a-receive
+use Rattle.rules.specs.declared.CountAnswer.{CountAnswer}
+use Rattle.rules.specs.declared.CountAnswer.the-variants as a-count
 use Rattle.rules.specs.declared.Verdict.the-variants.{Accepted}
 use Rattle.rules.specs.Device.{khz50}
 use Rattle.rules.specs.Plan.{planOf}
@@ -21,21 +23,22 @@ use Rattle.rules.specs.Grounds.{verdict}
 use Rattle.rules.specs.Frame.{frameOf, Given, flush, symbol}
 use Rattle.rules.specs.Steps.{Emitter, Sending, leaves, Starting, starts}
 use Rattle.rules.specs.Receive.{Receiver, Arrival, Receiving, hears, Listening, listens}
+use Rattle.rules.specs.Filling.{Filling, fills}
 use Rattle.facts.specs.Roomy.{Roomy}
 use Rattle.facts.proofs.Sizes.{khz50-roomy}
 use Rattle.bytecells.specs.Octets.{cellsOf, odd}
-use Rattle.bytecells.specs.ByteSteps.{startBytes, listenBytes, emitBytes, flushBytes, receiveBytes}
+use Rattle.bytecells.specs.ByteSteps.{startBytes, listenBytes, emitBytes, flushBytes, receiveBytes, fillBytes, unfillBytes}
 use Rattle.answers.specs.declared.Told.{Told}
-use Rattle.answers.specs.Answer.{short, toldStart, toldListen, toldSend, toldReceive}
+use Rattle.answers.specs.Answer.{short, toldCount, toldStart, toldListen, toldSend, toldReceive}
 use Rattle.runs.specs.Run.{isStarted, isListening, isSent, isReceived}
 use Rattle.runs.specs.Demand3.{Demand3}
 use Rattle.runs.specs.Claims.{PlanClaims}
 use Rattle.byteruns.specs.ByteEntries.{sendGiven, byteEntries}
 use Rattle.byteruns.proofs.Claims.{accepted-demand3-bytes, accepted-claims-bytes}
-use Rattle.headend.specs.Calls.{saysStore, saysStep, startTold, listenTold, sendTold, receiveTold, startCall, listenCall, emitCall, flushCall, receiveCall}
-use Rattle.callruns.specs.Host.{isWarming}
-use Rattle.callruns.specs.CallEntries.{startOf, listenOf, sendOf, receiveOf, startSaid, listenSaid, sendSaid, receiveSaid, giveCall, hearCall, callEntries, AnyBuffer}
-use Rattle.callruns.proofs.Zeros.{start-bytes, listen-bytes, emit-bytes, flush-bytes, receive-bytes}
+use Rattle.headend.specs.Calls.{saysStore, saysStep, saysFill, startTold, listenTold, sendTold, receiveTold, fillTold, startCall, listenCall, emitCall, flushCall, receiveCall, fillCall, unfillCall}
+use Rattle.callruns.specs.Host.{isCount, isWarming}
+use Rattle.callruns.specs.CallEntries.{startOf, listenOf, sendOf, receiveOf, countOf, startSaid, listenSaid, sendSaid, receiveSaid, fillSaid, giveCall, hearCall, callEntries, AnyBuffer}
+use Rattle.callruns.proofs.Zeros.{start-bytes, listen-bytes, emit-bytes, flush-bytes, receive-bytes, fill-bytes, unfill-bytes}
 use Rattle.callruns.proofs.Warming.{long, told-back, Tells, bytes-tell}
 
 -- ---- an answer laid out and taken again
@@ -56,6 +59,10 @@ receive-back : (r : ReceiveAnswer) → eqb (toldReceive r .number) 0 ≡ isRecei
 receive-back (a-receive.Warming v) h w = refl
 receive-back (a-receive.Data v n) h w = ap (λ (b : Bool). pick b (a-receive.Warming v) (a-receive.Data v n)) (w refl)
 receive-back (a-receive.Refused n place v) h w = ap (λ (b : Bool). pick b (pick true (a-receive.Warming v) (a-receive.Data v 0)) (a-receive.Refused n place v)) h
+
+count-back : (r : CountAnswer) → eqb (toldCount r .number) 0 ≡ isCount r → countOf (toldCount r) ≡ r
+count-back (a-count.Count n) h = refl
+count-back (a-count.Refused n place) h = ap (λ (b : Bool). pick b (a-count.Count 0) (a-count.Refused n place)) h
 
 -- ---- the calls
 
@@ -82,27 +89,43 @@ module _ (d : Device) (s : List ℕ) (roomy : Roomy d) (a : List ℕ) (room-for 
       ∙ ap (λ (t : Told). leaves (sendOf t) (r .store) (r .symbol)) (told-back a (toldSend (r .answer)) (long a room-for))
       ∙ ap (λ (x : SendAnswer). leaves x (r .store) (r .symbol)) (send-back (r .answer) h)
 
-  send-call : (e : Emitter) (y : List ℕ) (g : Given) → sendSaid (giveCall d s a e y g) ≡ sendGiven d s e y g
+  send-call : (e : Emitter) (w y : List ℕ) (g : Given) → sendSaid (giveCall d s a e w y g) ≡ sendGiven d s e w y g
   unfolding emitCall flushCall
-  send-call e y flush = send-told (flushBytes d s (e .state) (e .store) y) (e .store) y (flush-bytes d s (e .state) (e .store) y)
-  send-call e y (symbol ds) = send-told (emitBytes d s (e .state) (e .store) ds y) (e .store) y (emit-bytes d s (e .state) (e .store) ds y)
+  send-call e w y flush = send-told (flushBytes d s (e .state) (e .store) y) (e .store) y (flush-bytes d s (e .state) (e .store) y)
+  send-call e w y (symbol ds) = send-told (emitBytes d s w (e .state) (e .store) ds y) (e .store) y (emit-bytes d s w (e .state) (e .store) ds y)
 
-  hear-call : (v : Receiver) (x : Arrival) → receiveSaid (hearCall d s a v x) ≡ receiveBytes d s (v .state) (v .store) (x .symbol) (x .buffer)
+  hear-call : (v : Receiver) (x : Arrival) → receiveSaid (hearCall d s a v x) ≡ receiveBytes d s (x .profile) (v .state) (v .store) (x .symbol) (x .buffer)
   unfolding receiveCall Tells
   hear-call v x =
-      let r : Receiving = receiveBytes d s (v .state) (v .store) (x .symbol) (x .buffer) in
+      let r : Receiving = receiveBytes d s (x .profile) (v .state) (v .store) (x .symbol) (x .buffer) in
       ap (λ (b : Bool). receiveSaid (pick b (saysStep 21 (v .store) (x .buffer) a) (receiveTold r a))) room-for
       ∙ ap (λ (t : Told). hears (receiveOf t) (r .store) (r .buffer)) (told-back a (toldReceive (r .answer)) (long a room-for))
       ∙ ap (λ (z : ReceiveAnswer). hears z (r .store) (r .buffer))
-      (receive-back (r .answer) (receive-bytes d s (v .state) (v .store) (x .symbol) (x .buffer)) (bytes-tell d s roomy (v .state) (v .store) (x .symbol) (x .buffer)))
+      (receive-back (r .answer) (receive-bytes d s (x .profile) (v .state) (v .store) (x .symbol) (x .buffer)) (bytes-tell d s roomy (x .profile) (v .state) (v .store) (x .symbol) (x .buffer)))
+
+  fill-told : (r : Filling) (l : List ℕ) → eqb (toldCount (r .answer) .number) 0 ≡ isCount (r .answer) → fillSaid (pick (short a) (saysFill 21 l a) (fillTold r a)) ≡ r
+  fill-told r l h =
+      ap (λ (b : Bool). fillSaid (pick b (saysFill 21 l a) (fillTold r a))) room-for
+      ∙ ap (λ (t : Told). fills (countOf t) (r .left)) (told-back a (toldCount (r .answer)) (long a room-for))
+      ∙ ap (λ (x : CountAnswer). fills x (r .left)) (count-back (r .answer) h)
+
+  fill-call : (w : List ℕ) (j : ℕ) (stream : List ℕ) (start : ℕ) (room : List ℕ) → fillSaid (fillCall d s w j stream start room a) ≡ fillBytes d s w j stream start room
+  unfolding fillCall
+  fill-call w j stream start room = fill-told (fillBytes d s w j stream start room) room (fill-bytes d s w j stream start room)
+
+  unfill-call : (w : List ℕ) (j : ℕ) (ds : List ℕ) (start : ℕ) (stream : List ℕ) → fillSaid (unfillCall d s w j ds start stream a) ≡ unfillBytes d s w j ds start stream
+  unfolding unfillCall
+  unfill-call w j ds start stream = fill-told (unfillBytes d s w j ds start stream) stream (unfill-bytes d s w j ds start stream)
 
   -- a host's calls are the entries over bytes
   pub calls-are : callEntries d s a ≡ byteEntries d s
   calls-are = λ i. record {
     start = λ j store. start-call j store i;
-    send = λ e x. send-call e (x .room) (x .given) i;
+    send = λ e x. send-call e (x .profile) (x .room) (x .given) i;
     listen = λ j store. listen-call j store i;
     hear = λ v x. hear-call v x i;
+    fill = λ w j stream start room. fill-call w j stream start room i;
+    unfill = λ w j ds start stream. unfill-call w j ds start stream i;
     whole = λ b. not (odd b);
     read = cellsOf;
   }

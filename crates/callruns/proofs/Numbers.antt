@@ -1,5 +1,5 @@
 -- No ground has the number 0, so an answer's number is 0 exactly if no ground refuses. Assumes nothing.
-use Prim.Native.Nat.{ℕ, _+_, _/_}
+use Prim.Native.Nat.{ℕ, _+_, _-_, _*_, _/_}
 use mathlib.Core.Path.{_≡_, refl, sym, ap, _∙_}
 use mathlib.Core.Bool.{Bool, true, false, not, _&&_, _||_}
 use mathlib.Core.Option.{Option, none, some}
@@ -25,9 +25,12 @@ use Rattle.rules.specs.Plan.{Entry, Plan, planOf, chain, isPilot}
 use Rattle.rules.specs.Grounds.{_else_, ground?, badLength, badForm, badNext, pilotsMax, badNumbers, outside, aroundPlc, pilotClash, narrowBand, noWideBand, muchExcluded, muchInBand, fullWindow, manyRanked, recordGrounds, chainGrounds, grounds1to5, grounds6to15, grounds1to15, answer, verdict}
 use Rattle.rules.specs.Roles.{rankedCount, role}
 use Rattle.rules.specs.Answers.{roleIn, roleAnswer}
-use Rattle.rules.specs.Frame.{Frame, frameOf, dataCount, Given, flush, symbol, topData}
+use Rattle.rules.specs.Frame.{Frame, frameOf, dataCount, Given, flush, symbol}
+use Rattle.rules.specs.Filling.{Filling, fills, bitCount, ground26, fillGrounds, unfillGrounds, frameFill, frameUnfill, fillStep, unfillStep}
+use Rattle.rules.specs.Bits.{filledFrom, unfilledInto}
+use Rattle.rules.specs.Loads.{profileLoad, ground25, loadLimit, dataLoads, ground19}
 use Rattle.rules.specs.Store.{emitterPlaces, receiverPlaces, freshStore, fillerStore}
-use Rattle.rules.specs.Steps.{Emitter, Send, Sending, Starting, starts, refused, ground16, shortStore, ground17, givenGrounds, sendGrounds, accepted, frameStep, startGrounds, frameStart, frameCount, sendStep, startStep, dataCountAnswer}
+use Rattle.rules.specs.Steps.{Emitter, Send, Sending, Starting, starts, refused, ground16, shortStore, ground17, profileGround, ground18, givenGrounds, sendGrounds, accepted, frameStep, startGrounds, frameStart, frameCount, sendStep, startStep, dataCountAnswer}
 use Rattle.rules.specs.Receive as receive
 use Rattle.rules.specs.Receive.{Receiver, Arrival, Receiving, Listening, listens, turnedAway, shortBuffer, wrongCell, receiverGround16, receiverGround17, ground20, receiveGrounds, received, frameReceive, frameListen, hearStep, listenStep}
 use Rattle.copies.specs.Copy.{copyWith}
@@ -101,23 +104,52 @@ module _ (F : Frame) where
   unfolding startGrounds
   start-numbered places j st = both (ground16 F j) (ground? 17 (when (shortStore places st) 0)) (phase-numbered j) (last 17 (when (shortStore places st) 0) refl)
 
-  given-numbered : (j : ℕ) (g : Given) → numbered (givenGrounds F j g) ≡ true
+  loads-numbered : (w : List ℕ) → numbered (ground25 (F .width) w) ≡ true
+  unfolding ground25
+  loads-numbered w = more 25 (when (not (eqb (length w) (F .width))) 0) _ refl (last 25 (lowest (λ k. not (profileLoad (getD w k 0))) (F .width)) refl)
+
+  profile-numbered : (w : List ℕ) (g : Given) → numbered (profileGround F w g) ≡ true
+  unfolding profileGround
+  profile-numbered w flush = unfold numbered in refl
+  profile-numbered w (symbol ds) = loads-numbered w
+
+  count-numbered : (j n : ℕ) → numbered (ground18 F j n) ≡ true
+  unfolding ground18
+  count-numbered j n = last 18 (when (not (eqb n (dataCount F j))) 0) refl
+
+  data-numbered : (w : List ℕ) (j : ℕ) (ds : List ℕ) → numbered (ground19 F w j ds) ≡ true
+  unfolding ground19
+  data-numbered w j ds = last 19 (lowest (λ i. ltb (loadLimit (getD (dataLoads F w j) i 0)) (getD ds i 0)) (length ds)) refl
+
+  given-numbered : (w : List ℕ) (j : ℕ) (g : Given) → numbered (givenGrounds F w j g) ≡ true
   unfolding givenGrounds
-  given-numbered j flush = unfold numbered in refl
-  given-numbered j (symbol ds) = more 18 (when (not (eqb (length ds) (dataCount F j))) 0) _ refl (last 19 (lowest (λ i. ltb topData (getD ds i 0)) (length ds)) refl)
+  given-numbered w j flush = unfold numbered in refl
+  given-numbered w j (symbol ds) = both (ground18 F j (length ds)) (ground19 F w j ds) (count-numbered j (length ds)) (data-numbered w j ds)
 
   send-numbered : (e : Emitter) (a : Send) → numbered (sendGrounds F e a) ≡ true
   unfolding sendGrounds ground16 ground17
   send-numbered e a =
-      more 16 (when (leb (F .phases) (e .state .phase)) 0) _ refl
-      (more 17 (when (shortStore (emitterPlaces F) (e .store) || not (eqb (length (a .room)) (F .width))) 0) _ refl (given-numbered (e .state .phase) (a .given)))
+      both (profileGround F (a .profile) (a .given)) _ (profile-numbered (a .profile) (a .given))
+      (more 16 (when (leb (F .phases) (e .state .phase)) 0) _ refl
+      (more 17 (when (shortStore (emitterPlaces F) (e .store) || not (eqb (length (a .room)) (F .width))) 0) _ refl (given-numbered (a .profile) (e .state .phase) (a .given))))
 
   receive-numbered : (v : Receiver) (a : Arrival) → numbered (receiveGrounds F v a) ≡ true
   unfolding receiveGrounds receiverGround16 receiverGround17 ground20
   receive-numbered v a =
-      more 16 (when (leb (F .phases) (v .state .phase) || leb (F .depth) (v .state .heard)) 0) _ refl
+      both (ground25 (F .width) (a .profile)) _ (loads-numbered (a .profile))
+      (more 16 (when (leb (F .phases) (v .state .phase) || leb (F .depth) (v .state .heard)) 0) _ refl
       (more 17 (when (shortStore (receiverPlaces F) (v .store) || not (eqb (length (a .symbol)) (F .width)) || shortBuffer F (v .state) (a .buffer)) 0) _ refl
-      (last 20 (lowest (wrongCell F (v .state .phase) (a .symbol)) (F .width)) refl))
+      (last 20 (lowest (wrongCell F (a .profile) (v .state .phase) (a .symbol)) (F .width)) refl)))
+
+  fill-numbered : (w : List ℕ) (j m n a : ℕ) → numbered (fillGrounds F w j m n a) ≡ true
+  unfolding fillGrounds ground26
+  fill-numbered w j m n a =
+      both (ground25 (F .width) w) _ (loads-numbered w)
+      (both (ground16 F j) _ (phase-numbered j) (both (ground18 F j m) _ (count-numbered j m) (last 26 (when (ltb (n * 8 - a) (bitCount F w j)) 0) refl)))
+
+  unfill-numbered : (w : List ℕ) (j : ℕ) (ds : List ℕ) (n a : ℕ) → numbered (unfillGrounds F w j ds n a) ≡ true
+  unfolding unfillGrounds
+  unfill-numbered w j ds n a = both (fillGrounds F w j (length ds) n a) (ground19 F w j ds) (fill-numbered w j (length ds) n a) (data-numbered w j ds)
 
 -- ---- the number of an answer
 
@@ -205,4 +237,28 @@ module _ (d : Device) (s : List ℕ) where
       by-ground (λ (r : Receiving). toldReceive (r .answer) .number) (λ r. isReceived (r .answer)) (grounds1to15 d s) (frameReceive F v a) (turnedAway v a) (plan-numbered d s)
       (by-ground (λ (r : Receiving). toldReceive (r .answer) .number) (λ r. isReceived (r .answer)) (receiveGrounds F v a) (received F v a) (turnedAway v a) (receive-numbered F v a)
       (by-test (receive.warming F (v .state)) (λ q. rw q refl) (λ q. rw q refl)) (λ n place. (refl, refl)))
+      (λ n place. (refl, refl))
+
+  -- what is filled, and what filling that is refused leaves
+  away : List ℕ → ℕ → ℕ → Filling
+  away l n place = fills (a-count.Refused n place) l
+
+  pub fill-zero : (w : List ℕ) (j : ℕ) (stream : List ℕ) (a : ℕ) (room : List ℕ)
+      → eqb (toldCount (fillStep d s w j stream a room .answer) .number) 0 ≡ isCount (fillStep d s w j stream a room .answer)
+  unfolding fillStep frameFill away
+  fill-zero w j stream a room =
+      let F : Frame = frameOf d (planOf s) in
+      by-ground (λ (r : Filling). toldCount (r .answer) .number) (λ r. isCount (r .answer)) (grounds1to15 d s) (frameFill F w j stream a room) (away room) (plan-numbered d s)
+      (by-ground (λ (r : Filling). toldCount (r .answer) .number) (λ r. isCount (r .answer)) (fillGrounds F w j (length room) (length stream) a)
+      (fills (a-count.Count (bitCount F w j)) (filledFrom (dataLoads F w j) stream a)) (away room) (fill-numbered F w j (length room) (length stream) a) refl (λ n place. (refl, refl)))
+      (λ n place. (refl, refl))
+
+  pub unfill-zero : (w : List ℕ) (j : ℕ) (ds : List ℕ) (a : ℕ) (stream : List ℕ)
+      → eqb (toldCount (unfillStep d s w j ds a stream .answer) .number) 0 ≡ isCount (unfillStep d s w j ds a stream .answer)
+  unfolding unfillStep frameUnfill away
+  unfill-zero w j ds a stream =
+      let F : Frame = frameOf d (planOf s) in
+      by-ground (λ (r : Filling). toldCount (r .answer) .number) (λ r. isCount (r .answer)) (grounds1to15 d s) (frameUnfill F w j ds a stream) (away stream) (plan-numbered d s)
+      (by-ground (λ (r : Filling). toldCount (r .answer) .number) (λ r. isCount (r .answer)) (unfillGrounds F w j ds (length stream) a)
+      (fills (a-count.Count (bitCount F w j)) (unfilledInto (dataLoads F w j) ds stream a)) (away stream) (unfill-numbered F w j ds (length stream) a) refl (λ n place. (refl, refl)))
       (λ n place. (refl, refl))

@@ -102,18 +102,18 @@ module _ (d : Device) (s : List ℕ) (roomy : Roomy d) where
       (λ fine. by-ground (receiveGrounds F v a) (received F v a) (turnedAway v a) (λ e. received-tells fine v a) (λ n place. refl))
       (λ n place. refl)
 
-  pub bytes-tell : (v : ReceiverState) (store y b : List ℕ) → Tells (receiveBytes d s v store y b)
+  pub bytes-tell : (w : List ℕ) (v : ReceiverState) (store y b : List ℕ) → Tells (receiveBytes d s w v store y b)
   unfolding Tells receiveBytes receiveStep
-  bytes-tell v store y b =
+  bytes-tell w v store y b =
       by-test (odd store || odd y || odd b) (λ q. rw q (λ t. absurd (false≢true t)))
-      (λ q. rw q (hear-tells (record { state = v; store = cellsOf store }) (record { symbol = cellsOf y; buffer = cellsOf b })))
+      (λ q. rw q (hear-tells (record { state = v; store = cellsOf store }) (record { profile = w; symbol = cellsOf y; buffer = cellsOf b })))
 
   pub zero-is-warming : ZeroIsWarming d s
   unfolding receiveCall
-  zero-is-warming v store y b a e =
-      let fine = zero-is-accepted d s .received v store y b a .0 e in
-      let r : Receiving = receiveBytes d s v store y b in
-      let told : eqb (toldReceive (r .answer) .value) 0 ≡ isWarming (r .answer) = unfold Tells in bytes-tell v store y b (fine .1) in
+  zero-is-warming w v store y b a e =
+      let fine = zero-is-accepted d s .received w v store y b a .0 e in
+      let r : Receiving = receiveBytes d s w v store y b in
+      let told : eqb (toldReceive (r .answer) .value) 0 ≡ isWarming (r .answer) = unfold Tells in bytes-tell w v store y b (fine .1) in
       let left : pick (short a) (saysStep 21 store b a) (receiveTold r a) ≡ receiveTold r a = ap (λ (t : Bool). pick t (saysStep 21 store b a) (receiveTold r a)) (fine .0) in
       let is : valueIn (pick (short a) (saysStep 21 store b a) (receiveTold r a) .said .answer) ≡ toldReceive (r .answer) .value =
       ap (λ (x : StepSaid). valueIn (x .said .answer)) left ∙ value-is a (toldReceive (r .answer)) (long a (fine .0)) in (

@@ -3,7 +3,7 @@ use Prim.Native.Nat.{ℕ}
 use mathlib.Core.Path.{_≡_, refl, sym, _∙_}
 use mathlib.Core.Logic.{_↔_}
 use mathlib.Core.Bool.{Bool, true, false, _||_, true≢false}
-use mathlib.Core.List.{List}
+use mathlib.Core.List.{List, []}
 use native.Mathlib.Omega.{arith}
 use lib.Dec.{eqb}
 use borrow.Author.Tests.{eqb-true, eq-eqb}
@@ -18,15 +18,15 @@ use Rattle.rules.specs.Frame.{flush, symbol}
 use Rattle.rules.specs.Steps.{emitStep, flushStep, dataCountAnswer}
 use Rattle.rules.specs.Receive.{receiveStep}
 use Rattle.bytecells.specs.Octets.{cellsOf, odd}
-use Rattle.bytecells.specs.ByteSteps.{startBytes, listenBytes, emitBytes, flushBytes, receiveBytes}
+use Rattle.bytecells.specs.ByteSteps.{startBytes, listenBytes, emitBytes, flushBytes, receiveBytes, fillBytes, unfillBytes}
 use Rattle.bytemodulate.specs.ByteSymbols.{modulateBytes}
 use Rattle.exclusion.specs.Trial.{trialOfNumbers}
 use Rattle.answers.specs.declared.Told.{Told}
 use Rattle.answers.specs.Answer.{short, written, toldVerdict, toldRole, toldCount, toldStart, toldListen, toldSend, toldReceive}
 use Rattle.runs.specs.Run.{isStarted, isListening, isSent, isReceived}
-use Rattle.headend.specs.Calls.{Said, says, StoreSaid, saysStore, StepSaid, saysStep, NumbersSaid, saysNumbers, startTold, listenTold, sendTold, receiveTold, modulateTold, judgeCall, tryCall, roleCall, countCall, startCall, listenCall, emitCall, flushCall, receiveCall, modulateCall}
+use Rattle.headend.specs.Calls.{Said, says, StoreSaid, saysStore, StepSaid, saysStep, NumbersSaid, saysNumbers, FillSaid, saysFill, fillTold, startTold, listenTold, sendTold, receiveTold, modulateTold, judgeCall, tryCall, roleCall, countCall, startCall, listenCall, emitCall, flushCall, receiveCall, fillCall, unfillCall, modulateCall}
 use Rattle.callruns.specs.Host.{isAccepted, isRole, isCount, isModulated, ZeroIsAccepted}
-use Rattle.callruns.proofs.Numbers.{verdict-zero, trial-zero, role-zero, count-zero, start-zero, listen-zero, send-zero, hear-zero}
+use Rattle.callruns.proofs.Numbers.{verdict-zero, trial-zero, role-zero, count-zero, start-zero, listen-zero, send-zero, hear-zero, fill-zero, unfill-zero}
 use Rattle.callruns.proofs.Modulated.{modulate-bytes}
 
 -- the number of x where b holds, 21, and else of y
@@ -45,23 +45,35 @@ module _ (d : Device) (s : List ℕ) where
   unfolding listenBytes
   listen-bytes j store = by-test (odd store) (λ q. rw q refl) (λ q. rw q (listen-zero d s j (cellsOf store)))
 
-  pub emit-bytes : (e : EmitterState) (store ds room : List ℕ) → eqb (toldSend (emitBytes d s e store ds room .answer) .number) 0 ≡ isSent (emitBytes d s e store ds room .answer)
+  pub emit-bytes : (w : List ℕ) (e : EmitterState) (store ds room : List ℕ)
+      → eqb (toldSend (emitBytes d s w e store ds room .answer) .number) 0 ≡ isSent (emitBytes d s w e store ds room .answer)
   unfolding emitBytes emitStep
-  emit-bytes e store ds room =
+  emit-bytes w e store ds room =
       by-test (odd store || odd ds || odd room) (λ q. rw q refl)
-      (λ q. rw q (send-zero d s (record { state = e; store = cellsOf store }) (record { given = symbol (cellsOf ds); room = cellsOf room })))
+      (λ q. rw q (send-zero d s (record { state = e; store = cellsOf store }) (record { given = symbol (cellsOf ds); profile = w; room = cellsOf room })))
 
   pub flush-bytes : (e : EmitterState) (store room : List ℕ) → eqb (toldSend (flushBytes d s e store room .answer) .number) 0 ≡ isSent (flushBytes d s e store room .answer)
   unfolding flushBytes flushStep
   flush-bytes e store room =
       by-test (odd store || odd room) (λ q. rw q refl)
-      (λ q. rw q (send-zero d s (record { state = e; store = cellsOf store }) (record { given = flush; room = cellsOf room })))
+      (λ q. rw q (send-zero d s (record { state = e; store = cellsOf store }) (record { given = flush; profile = []; room = cellsOf room })))
 
-  pub receive-bytes : (v : ReceiverState) (store y b : List ℕ) → eqb (toldReceive (receiveBytes d s v store y b .answer) .number) 0 ≡ isReceived (receiveBytes d s v store y b .answer)
+  pub receive-bytes : (w : List ℕ) (v : ReceiverState) (store y b : List ℕ)
+      → eqb (toldReceive (receiveBytes d s w v store y b .answer) .number) 0 ≡ isReceived (receiveBytes d s w v store y b .answer)
   unfolding receiveBytes receiveStep
-  receive-bytes v store y b =
+  receive-bytes w v store y b =
       by-test (odd store || odd y || odd b) (λ q. rw q refl)
-      (λ q. rw q (hear-zero d s (record { state = v; store = cellsOf store }) (record { symbol = cellsOf y; buffer = cellsOf b })))
+      (λ q. rw q (hear-zero d s (record { state = v; store = cellsOf store }) (record { profile = w; symbol = cellsOf y; buffer = cellsOf b })))
+
+  pub fill-bytes : (w : List ℕ) (j : ℕ) (stream : List ℕ) (start : ℕ) (room : List ℕ)
+      → eqb (toldCount (fillBytes d s w j stream start room .answer) .number) 0 ≡ isCount (fillBytes d s w j stream start room .answer)
+  unfolding fillBytes
+  fill-bytes w j stream start room = by-test (odd room) (λ q. rw q refl) (λ q. rw q (fill-zero d s w j stream start (cellsOf room)))
+
+  pub unfill-bytes : (w : List ℕ) (j : ℕ) (ds : List ℕ) (start : ℕ) (stream : List ℕ)
+      → eqb (toldCount (unfillBytes d s w j ds start stream .answer) .number) 0 ≡ isCount (unfillBytes d s w j ds start stream .answer)
+  unfolding unfillBytes
+  unfill-bytes w j ds start stream = by-test (odd ds) (λ q. rw q refl) (λ q. rw q (unfill-zero d s w j (cellsOf ds) start stream))
 
   -- ---- the calls
 
@@ -69,7 +81,7 @@ module _ (d : Device) (s : List ℕ) where
   told-zero a t ok h = zero (λ (x : Said). x .number) (short a) (says 21 a) (says (t .number) (written a t)) ok refl h
 
   pub zero-is-accepted : ZeroIsAccepted d s
-  unfolding judgeCall tryCall roleCall countCall startCall listenCall emitCall flushCall receiveCall modulateCall
+  unfolding judgeCall tryCall roleCall countCall startCall listenCall emitCall flushCall receiveCall fillCall unfillCall modulateCall
   zero-is-accepted = record {
     judged = λ a. told-zero a (toldVerdict (verdict d s)) (isAccepted (verdict d s)) (verdict-zero d s);
     tried = λ first last a. told-zero a (toldVerdict (trialOfNumbers d s first last)) (isAccepted (trialOfNumbers d s first last)) (trial-zero d s first last);
@@ -79,12 +91,16 @@ module _ (d : Device) (s : List ℕ) where
         zero (λ (x : StoreSaid). x .said .number) (short a) (saysStore 21 store a) (startTold (startBytes d s j store) a) (isStarted (startBytes d s j store .answer)) refl (start-bytes j store);
     listens = λ j store a.
         zero (λ (x : StoreSaid). x .said .number) (short a) (saysStore 21 store a) (listenTold (listenBytes d s j store) a) (isListening (listenBytes d s j store .answer)) refl (listen-bytes j store);
-    emitted = λ e store ds room a.
-        zero (λ (x : StepSaid). x .said .number) (short a) (saysStep 21 store room a) (sendTold (emitBytes d s e store ds room) a) (isSent (emitBytes d s e store ds room .answer)) refl (emit-bytes e store ds room);
+    emitted = λ w e store ds room a.
+        zero (λ (x : StepSaid). x .said .number) (short a) (saysStep 21 store room a) (sendTold (emitBytes d s w e store ds room) a) (isSent (emitBytes d s w e store ds room .answer)) refl (emit-bytes w e store ds room);
     flushed = λ e store room a.
         zero (λ (x : StepSaid). x .said .number) (short a) (saysStep 21 store room a) (sendTold (flushBytes d s e store room) a) (isSent (flushBytes d s e store room .answer)) refl (flush-bytes e store room);
-    received = λ v store y b a.
-        zero (λ (x : StepSaid). x .said .number) (short a) (saysStep 21 store b a) (receiveTold (receiveBytes d s v store y b) a) (isReceived (receiveBytes d s v store y b .answer)) refl (receive-bytes v store y b);
+    received = λ w v store y b a.
+        zero (λ (x : StepSaid). x .said .number) (short a) (saysStep 21 store b a) (receiveTold (receiveBytes d s w v store y b) a) (isReceived (receiveBytes d s w v store y b .answer)) refl (receive-bytes w v store y b);
+    filled = λ w j stream start room a.
+        zero (λ (x : FillSaid). x .said .number) (short a) (saysFill 21 room a) (fillTold (fillBytes d s w j stream start room) a) (isCount (fillBytes d s w j stream start room .answer)) refl (fill-bytes w j stream start room);
+    unfilled = λ w j ds start stream a.
+        zero (λ (x : FillSaid). x .said .number) (short a) (saysFill 21 stream a) (fillTold (unfillBytes d s w j ds start stream) a) (isCount (unfillBytes d s w j ds start stream .answer)) refl (unfill-bytes w j ds start stream);
     modulated = λ y loads minus l a.
         zero (λ (x : NumbersSaid). x .said .number) (short a) (saysNumbers 21 l a) (modulateTold (modulateBytes y loads minus d l) a) (isModulated (modulateBytes y loads minus d l .answer)) refl (modulate-bytes y loads minus d l);
   }

@@ -1,4 +1,4 @@
--- What a C host reads from a call's number and from the value in its answer buffer (requests 01, 04 and 05). Statements only. Assumes nothing.
+-- What a C host reads from a call's number and from the value in its answer buffer (requests 01, 04, 05 and 07). Statements only. Assumes nothing.
 use Prim.Native.Nat.{ℕ, _+_, _*_}
 use mathlib.Core.Path.{_≡_}
 use mathlib.Core.Logic.{_↔_}
@@ -22,12 +22,12 @@ use Rattle.modulator.specs.declared.ModulateAnswer.the-variants as a-modulate
 use Rattle.rules.specs.Grounds.{verdict}
 use Rattle.rules.specs.Answers.{roleAnswer}
 use Rattle.rules.specs.Steps.{dataCountAnswer}
-use Rattle.bytecells.specs.ByteSteps.{startBytes, listenBytes, emitBytes, flushBytes, receiveBytes}
+use Rattle.bytecells.specs.ByteSteps.{startBytes, listenBytes, emitBytes, flushBytes, receiveBytes, fillBytes, unfillBytes}
 use Rattle.bytemodulate.specs.ByteSymbols.{modulateBytes}
 use Rattle.answers.specs.Answer.{short}
 use Rattle.runs.specs.Run.{isStarted, isListening, isSent, isReceived}
 use Rattle.exclusion.specs.Trial.{trialOfNumbers}
-use Rattle.headend.specs.Calls.{judgeCall, tryCall, roleCall, countCall, startCall, listenCall, emitCall, flushCall, receiveCall, modulateCall}
+use Rattle.headend.specs.Calls.{judgeCall, tryCall, roleCall, countCall, startCall, listenCall, emitCall, flushCall, receiveCall, fillCall, unfillCall, modulateCall}
 
 -- no ground refuses
 abbrev pub isAccepted : Verdict → Bool
@@ -67,12 +67,16 @@ pub record ZeroIsAccepted (d : Device) (s : List ℕ) : Type 0 where
   pub counted : (j : ℕ) (a : List ℕ) → (countCall d s j a .number ≡ 0) ↔ ((short a ≡ false) × (isCount (dataCountAnswer d s j) ≡ true))
   pub started : (j : ℕ) (store a : List ℕ) → (startCall d s j store a .said .number ≡ 0) ↔ ((short a ≡ false) × (isStarted (startBytes d s j store .answer) ≡ true))
   pub listens : (j : ℕ) (store a : List ℕ) → (listenCall d s j store a .said .number ≡ 0) ↔ ((short a ≡ false) × (isListening (listenBytes d s j store .answer) ≡ true))
-  pub emitted : (e : EmitterState) (store ds room a : List ℕ)
-      → (emitCall d s (e .phase) store ds room a .said .number ≡ 0) ↔ ((short a ≡ false) × (isSent (emitBytes d s e store ds room .answer) ≡ true))
+  pub emitted : (w : List ℕ) (e : EmitterState) (store ds room a : List ℕ)
+      → (emitCall d s w (e .phase) store ds room a .said .number ≡ 0) ↔ ((short a ≡ false) × (isSent (emitBytes d s w e store ds room .answer) ≡ true))
   pub flushed : (e : EmitterState) (store room a : List ℕ)
       → (flushCall d s (e .phase) store room a .said .number ≡ 0) ↔ ((short a ≡ false) × (isSent (flushBytes d s e store room .answer) ≡ true))
-  pub received : (v : ReceiverState) (store y b a : List ℕ)
-      → (receiveCall d s (v .phase) (v .heard) store y b a .said .number ≡ 0) ↔ ((short a ≡ false) × (isReceived (receiveBytes d s v store y b .answer) ≡ true))
+  pub received : (w : List ℕ) (v : ReceiverState) (store y b a : List ℕ)
+      → (receiveCall d s w (v .phase) (v .heard) store y b a .said .number ≡ 0) ↔ ((short a ≡ false) × (isReceived (receiveBytes d s w v store y b .answer) ≡ true))
+  pub filled : (w : List ℕ) (j : ℕ) (stream : List ℕ) (start : ℕ) (room a : List ℕ)
+      → (fillCall d s w j stream start room a .said .number ≡ 0) ↔ ((short a ≡ false) × (isCount (fillBytes d s w j stream start room .answer) ≡ true))
+  pub unfilled : (w : List ℕ) (j : ℕ) (ds : List ℕ) (start : ℕ) (stream a : List ℕ)
+      → (unfillCall d s w j ds start stream a .said .number ≡ 0) ↔ ((short a ≡ false) × (isCount (unfillBytes d s w j ds start stream .answer) ≡ true))
   -- this one is given no plan
   pub modulated : (y loads minus : List ℕ) (l : List Float) (a : List ℕ)
       → (modulateCall d y loads minus l a .said .number ≡ 0) ↔ ((short a ≡ false) × (isModulated (modulateBytes y loads minus d l .answer) ≡ true))
@@ -80,5 +84,5 @@ pub record ZeroIsAccepted (d : Device) (s : List ℕ) : Type 0 where
 -- A receive call that returns 0 leaves the value 0 exactly if it answers warming.
 abbrev pub ZeroIsWarming : Device → List ℕ → Type 0
 ZeroIsWarming d s =
-    (v : ReceiverState) (store y b a : List ℕ) → receiveCall d s (v .phase) (v .heard) store y b a .said .number ≡ 0
-    → (valueIn (receiveCall d s (v .phase) (v .heard) store y b a .said .answer) ≡ 0) ↔ (isWarming (receiveBytes d s v store y b .answer) ≡ true)
+    (w : List ℕ) (v : ReceiverState) (store y b a : List ℕ) → receiveCall d s w (v .phase) (v .heard) store y b a .said .number ≡ 0
+    → (valueIn (receiveCall d s w (v .phase) (v .heard) store y b a .said .answer) ≡ 0) ↔ (isWarming (receiveBytes d s w v store y b .answer) ≡ true)

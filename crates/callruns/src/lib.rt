@@ -15,7 +15,7 @@ ghost use Rattle.runs.specs.Claims.{PlanClaims};
 ghost use Rattle.callruns.specs.Host.{ZeroIsAccepted, ZeroIsWarming};
 ghost use Rattle.callruns.specs.CallEntries.{callEntries, AnyBuffer};
 
-// Any bytes as a plan: each of the ten calls returns 0 exactly if nothing refuses.
+// Any bytes as a plan: each of the twelve calls returns 0 exactly if nothing refuses.
 pub fn zero_is_accepted()
     ensures { λ _. ⌜ ((s : List ℕ) → ZeroIsAccepted khz50 s) ⌝ }
 {}
@@ -25,7 +25,7 @@ pub fn zero_is_warming()
     ensures { λ _. ⌜ ((s : List ℕ) → ZeroIsWarming khz50 s) ⌝ }
 {}
 
-// Every accepted plan, every starting phase, all lists of calls, in any answer buffer that is long enough: placed, unique, returned.
+// Every accepted plan, every starting phase, all lists of calls, in any answer buffer that is long enough: placed, unique, returned, streams.
 pub fn demand_3_calls()
     ensures { λ _. ⌜ ((s : List ℕ) (n : ℕ) → verdict khz50 s ≡ Accepted n → (a : List ℕ) → short a ≡ false → Demand3 (frameOf khz50 (planOf s)) (callEntries khz50 s a)) ⌝ }
 {}

@@ -1,5 +1,5 @@
-// What the programs read from standard input, the lines that they print, and what they tell standard error where either fails. No contract
-// can say what is read or written; those here say how many bytes were read, and which number bytes are.
+// What the programs read from standard input or a file, the lines that they print, and what they tell standard error where either fails. No
+// contract can say what is read or written; those here say how many bytes were read, and which number bytes are.
 ghost use Prim.Native.Nat.{_≤_, min};
 ghost use mathlib.Core.Path.{_≡_};
 ghost use lib.ListN.{length, getD};
@@ -13,27 +13,27 @@ pub enum Input {
     Failed,
 }
 
-// One read into the bytes from a place on: how many it put there, 0 where the input has ended. A read that a signal interrupts before it
-// moves a byte has failed.
-fn read_from(bytes: &mut [u8], from: usize) -> Input
+// One read of a descriptor into the bytes from a place on: how many it put there, 0 where the input has ended. A read that a signal
+// interrupts before it moves a byte has failed.
+fn read_from(descriptor: i32, bytes: &mut [u8], from: usize) -> Input
     requires { ⌜ from ≤ length (now bytes) ⌝ }
     ensures { λ r. ⌜ HoldsFrom from r (now (bytes .exit)) ⌝ }
 {
     let rest = &mut bytes[from..];
-    let got = libc::read(0, rest);
+    let got = libc::read(descriptor, rest);
     if got < 0 {
         return Input::Failed;
     }
     Input::Bytes(io::count(got, rest))
 }
 
-// Reads until the bytes are full, the input ends or a read fails.
-pub fn read(bytes: &mut [u8]) -> Input
+// Reads a descriptor until the bytes are full, the input ends or a read fails.
+pub fn read_open(descriptor: i32, bytes: &mut [u8]) -> Input
     ensures { λ r. ⌜ Holds r (now (bytes .exit)) ⌝ }
 {
     let mut done = 0;
     while done < bytes.len() {
-        match read_from(bytes, done) {
+        match read_from(descriptor, bytes, done) {
             Input::Failed => return Input::Failed,
             Input::Bytes(n) => {
                 if n == 0 {
@@ -44,6 +44,13 @@ pub fn read(bytes: &mut [u8]) -> Input
         }
     }
     Input::Bytes(done)
+}
+
+// The same of standard input.
+pub fn read(bytes: &mut [u8]) -> Input
+    ensures { λ r. ⌜ Holds r (now (bytes .exit)) ⌝ }
+{
+    read_open(0, bytes)
 }
 
 // Tells standard error what the program of this name could not do, or what it expects.

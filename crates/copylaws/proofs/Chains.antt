@@ -15,7 +15,7 @@ use Rattle.rules.specs.declared.Finding.the-variants.{Fine, Ground}
 use Rattle.rules.specs.Plan.{Entry, entry, leads, chainFrom, isPilot}
 use Rattle.rules.specs.Grounds.{_else_, ground?, badForm, badNext, badNumbers, pilotsMax, recordGrounds, chainGrounds}
 use Rattle.chains.proofs.Steps.{chain-ends, chain-on, leads-on, leads-up, leads-low}
-use Rattle.records.proofs.RecordLaws.{not-fine, both-fine}
+use Rattle.rules.proofs.Findings.{not-fine, both-fine}
 use Rattle.chains.specs.Last.{lastOf, lastIndex}
 use Rattle.chains.proofs.LastLaws.{last-from}
 use Rattle.copies.specs.Copy.{copyWith}

@@ -18,8 +18,8 @@ use Rattle.rules.specs.Plan.{Entry, entry, chain, chainFrom, only, isRange, isP
 use Rattle.rules.specs.Bands.{any, covers, excluded}
 use Rattle.rules.specs.Roles.{names}
 use Rattle.rules.specs.Grounds.{_else_, ground?, badLength, badNumbers, chainGrounds, grounds1to5}
-use Rattle.records.proofs.RecordLaws.{both-fine, Sized, length-fine}
-use Rattle.facts.proofs.Accepted.{when-fine}
+use Rattle.rules.proofs.Findings.{both-fine, when-fine}
+use Rattle.records.proofs.RecordLaws.{Sized, length-fine}
 use Rattle.chains.specs.Last.{lastIndex}
 use Rattle.chains.proofs.LastLaws.{last-inside}
 use Rattle.copies.specs.Copy.{copyWith}

@@ -1,9 +1,11 @@
 -- Laws of tests: and, or, and the two outcomes of a comparison for a proof by cases. Assumes nothing.
-use mathlib.Core.Path.{_≡_, refl, sym, _∙_}
+use mathlib.Core.Path.{_≡_, refl, sym, ap, _∙_}
 use mathlib.Core.Logic.{_⊎_, inl, inr}
 use mathlib.Core.Bool.{Bool, true, false, _&&_, _||_, true≢false}
-use Prim.Native.Nat.{ℕ, _≤_, _<_}
-use lib.Dec.{ltb, eqb}
+use Prim.Native.Nat.{ℕ, zero, suc, _≤_, _<_}
+use native.Mathlib.Omega.{arith}
+use lib.Bits.{bitOr, or-zero-l, or-add-and, and-le-r}
+use lib.Dec.{ltb, eqb, eqb·suc-zero}
 use borrow.Author.Tests.{ltb-true, ltb-false, eqb-true, eqb-false, eq-eqb, ne-eqb}
 
 pub and-false : (a : Bool) → (a && false) ≡ false
@@ -73,3 +75,10 @@ eqb-sym a b =
     by-test (eqb b a)
     (λ e. eq-eqb a b (sym (eqb-true b a e)) ∙ sym e)
     (λ e. ne-eqb a b (λ z. conflict (eqb b a) (eq-eqb b a (sym z)) e) ∙ sym e)
+
+-- numbers joined bit by bit are 0 if both are
+pub or-zero : (a b : ℕ) → eqb (bitOr a b) 0 ≡ (eqb a 0 && eqb b 0)
+or-zero zero b = ap (λ (n : ℕ). eqb n 0) (or-zero-l b)
+or-zero (suc a) b =
+    ne-eqb (bitOr (suc a) b) 0 (λ z. absurd (omega (arith, or-add-and (suc a) b, and-le-r (suc a) b)))
+    ∙ sym (ap (λ (t : Bool). t && eqb b 0) (eqb·suc-zero a))

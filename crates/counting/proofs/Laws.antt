@@ -43,6 +43,10 @@ pub bit-true : (b : Bool) → 1 ≤ bit b → b ≡ true
 bit-true true h = refl
 bit-true false h = absurd (omega arith)
 
+pub bit-false : (b : Bool) → bit b ≡ 0 → b ≡ false
+bit-false true e = absurd (omega arith)
+bit-false false e = refl
+
 pub count-le : (p : ℕ → Bool) (n : ℕ) → count p n ≤ n
 unfolding count sum
 count-le p zero = zero-le

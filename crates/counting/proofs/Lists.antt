@@ -1,11 +1,13 @@
 -- Lists given by a rule, lists of zeros, and lists stored in others. Assumes nothing.
 use mathlib.Core.Path.{_≡_, refl, sym, ap, _∙_}
+use mathlib.Core.Logic.{by-cases}
 use mathlib.Core.List.{List, [], _∷_, _++_, map}
 use Prim.Native.Nat.{ℕ, zero, suc, _+_, _≤_, _<_, suc-le-suc}
 use native.Mathlib.Nat.{not-suc-le-zero, le-of-suc-le-suc, add-zero, add-suc, suc-add, zero-add}
+use native.Mathlib.Decide.{decLt}
 use native.Mathlib.Omega.{arith}
 use lib.ListN.{length, getD, set, take, replicate, length-set}
-use lib.Seq.{sets, getD-set-same, getD-set-other, ext-getD, length-sets}
+use lib.Seq.{sets, getD-set-same, getD-set-other, ext-getD, length-sets, length-take-le, getD-take}
 use Rattle.counting.specs.Search.{tabulate}
 
 pub length-tabulate {ℓ} : {A : Type ℓ} (f : ℕ → A) (n : ℕ) → length (tabulate f n) ≡ n
@@ -84,3 +86,32 @@ pub sets-all : (l vs : List ℕ) → length l ≡ length vs → sets l 0 vs ≡ 
 sets-all l vs e =
     ext-getD 0 (sets l 0 vs) vs (length-sets l 0 vs ∙ e)
     (λ i h. getD-sets-0 l vs 0 i (rw (length-sets, e) at h) (omega arith))
+
+-- what was stored from the start on is what stands there
+pub take-sets : (b xs : List ℕ) (n : ℕ) → length xs ≡ n → n ≤ length b → take n (sets b 0 xs) ≡ xs
+take-sets b xs n e h =
+    let size : length (take n (sets b 0 xs)) ≡ n = length-take-le n (sets b 0 xs) (rw length-sets h) in
+    ext-getD 0 (take n (sets b 0 xs)) xs (size ∙ sym e)
+    (λ i l. getD-take n (sets b 0 xs) i 0 (rw size at l) ∙ getD-sets-0 b xs 0 i (omega arith) (omega arith))
+
+-- ---- a list of n places whose first k hold what a rule says
+
+pub record Laid (f : ℕ → ℕ) (n k : ℕ) (x : List ℕ) : Type 0 where
+  pub long : length x ≡ n
+  pub below : (i : ℕ) → i < k → getD x i 0 ≡ f i
+
+pub laid-none : (f : ℕ → ℕ) (x : List ℕ) → Laid f (length x) 0 x
+laid-none f x = record { long = refl; below = λ i h. absurd (omega arith) }
+
+-- one place more
+pub laid-next : (f : ℕ → ℕ) (n k : ℕ) (x : List ℕ) (v : ℕ) → Laid f n k x → k < n → v ≡ f k → Laid f n (k + 1) (set x k v)
+laid-next f n k x v l h e = record {
+  long = length-set x k v ∙ l .long;
+  below = λ i g.
+      by-cases (decLt i k)
+      (λ c. getD-set-other x k i v 0 (λ z. omega arith) ∙ l .below i c)
+      (λ c. let z : i ≡ k = omega arith in rw z (getD-set-same x k v 0 (omega (arith, l .long)) ∙ e));
+}
+
+pub laid-all : (f : ℕ → ℕ) (n k : ℕ) (x : List ℕ) → Laid f n k x → n ≤ k → x ≡ tabulate f n
+laid-all f n k x l h = is-tabulate x n f (l .long) (λ i g. l .below i (omega arith))

@@ -3,7 +3,7 @@
 use rules::EmitterState;
 use trials::Sending;
 
-// The cells of the store, and of a symbol.
+// The cells of the store, and of a symbol, which has as many as there are subcarriers.
 pub(crate) const STORE: usize = 60000;
 
 pub(crate) const SYMBOL: usize = 4096;

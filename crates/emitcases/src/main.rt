@@ -1,7 +1,7 @@
 // Sends symbols with `fresh::fresh_emitter`, `emitter::emit` and `emitter::flush`, asks `cells::data_count`, and prints what
 // tests/emits.py works out with the second model: a line for each case, how many steps were sent and how many refused, and the checksum
-// of every answer, of the symbol after each step and of the store at the end. A fresh start that is refused prints `refused`, number,
-// place and the checksum.
+// of every answer, of the symbol after each step and of the store at the end. Every subcarrier has load 14. A fresh start that is refused
+// prints `refused`, number, place and the checksum.
 // Standard input holds, for each case, the plan's length, the starting phase and the number of steps as four bytes each, high byte first;
 // then the plan, and a byte for each step. tests/emits.py says what the bytes stand for and makes stdin and stdout.
 mod kinds;
@@ -26,6 +26,9 @@ const ROOM: usize = 4097;
 
 // What stands in all cells at the start of a case.
 const BEFORE: u16 = 43981;
+
+// The load of every subcarrier: with it a data cell may be any number up to 16383.
+const LOAD: u8 = 14;
 
 // The checksum of N_D at all phases, and at two numbers that are none.
 fn mixed_counts(plan: &[u8]) -> u32 {
@@ -60,6 +63,7 @@ fn step(
     run: Run,
     kind: u8,
     plan: &[u8],
+    profile: &[u8; SYMBOL],
     need: usize,
     store: &mut [u16; STORE],
     symbol: &mut [u16; ROOM],
@@ -70,17 +74,18 @@ fn step(
     let mut cells = [0u16; SYMBOL];
     let mut next = run;
     next.x = kinds::filled(run.x, kind, given.count, &mut cells);
-    let answer = trials::send(plan, given, store, &cells, symbol);
+    let answer = trials::send(plan, profile, given, store, &cells, symbol);
     told(next, answer, symbol)
 }
 
 // The run after a step for each byte.
 fn steps(start: Run, plan: &[u8], need: usize, bytes: &[u8], store: &mut [u16; STORE]) -> Run {
+    let profile = [LOAD; SYMBOL];
     let mut symbol = [BEFORE; ROOM];
     let mut run = start;
     let mut i: usize = 0;
     while i < bytes.len() {
-        let next = step(run, bytes[i], plan, need, store, &mut symbol);
+        let next = step(run, bytes[i], plan, &profile, need, store, &mut symbol);
         run = next;
         i += 1;
     }

@@ -8,17 +8,18 @@ use rules::EmitterState;
 use rules::SendAnswer;
 use rules::Verdict;
 
-// An emit or flush step; a flush reads no input. Where no ground refuses it, the input symbol goes to the places of its cells, and the delayed
+// An emit or flush step; a flush reads no profile and no input. Where no ground refuses it, the input symbol goes to the places of its cells, and the delayed
 // cells go out on their subcarriers.
 fn send(
     plan: &[u8],
+    profile: &[u8],
     flushing: bool,
     state: EmitterState,
     store: &mut [u16],
     input: &[u16],
     symbol: &mut [u16],
 ) -> SendAnswer
-    ensures { λ r. ⌜ leaves r (now (store .exit)) (now (symbol .exit)) ≡ stepBy khz50 (now (plan .entry)) flushing state (now (store .entry)) (now (input .entry)) (now (symbol .entry)) ⌝ }
+    ensures { λ r. ⌜ leaves r (now (store .exit)) (now (symbol .exit)) ≡ stepBy khz50 (now (plan .entry)) (now (profile .entry)) flushing state (now (store .entry)) (now (input .entry)) (now (symbol .entry)) ⌝ }
 {
     let d = rules::khz50_device();
     let mut marks = [0u16; 4096];
@@ -27,6 +28,7 @@ fn send(
     match sendgrounds::admit(
         d,
         plan,
+        profile,
         flushing,
         state,
         store.len(),
@@ -48,23 +50,33 @@ fn send(
     }
 }
 
-// An emit step: the input goes to the places of its cells as an input symbol, and one symbol on the line is sent.
+// An emit step under a load profile: the input goes to the places of its cells as an input symbol, and one symbol on the line is sent.
 pub fn emit(
     plan: &[u8],
+    profile: &[u8],
     state: EmitterState,
     store: &mut [u16],
     input: &[u16],
     symbol: &mut [u16],
 ) -> SendAnswer
-    ensures { λ r. ⌜ leaves r (now (store .exit)) (now (symbol .exit)) ≡ emitStep khz50 (now (plan .entry)) state (now (store .entry)) (now (input .entry)) (now (symbol .entry)) ⌝ }
+    ensures { λ r. ⌜ leaves r (now (store .exit)) (now (symbol .exit)) ≡ emitStep khz50 (now (plan .entry)) (now (profile .entry)) state (now (store .entry)) (now (input .entry)) (now (symbol .entry)) ⌝ }
 {
-    send(plan, false, state, store, input, symbol)
+    send(plan, profile, false, state, store, input, symbol)
 }
 
-// A flush step: the same with filler in every data cell.
+// A flush step: the same with filler in every data cell, and without a profile.
 pub fn flush(plan: &[u8], state: EmitterState, store: &mut [u16], symbol: &mut [u16]) -> SendAnswer
     ensures { λ r. ⌜ leaves r (now (store .exit)) (now (symbol .exit)) ≡ flushStep khz50 (now (plan .entry)) state (now (store .entry)) (now (symbol .entry)) ⌝ }
 {
-    let none = [0u16; 1];
-    send(plan, true, state, store, &none[..0], symbol)
+    let no_profile = [0u8; 1];
+    let no_data = [0u16; 1];
+    send(
+        plan,
+        &no_profile[..0],
+        true,
+        state,
+        store,
+        &no_data[..0],
+        symbol,
+    )
 }

@@ -11,29 +11,25 @@ use Rattle.rules.specs.declared.Device.{Device}
 use Rattle.rules.specs.declared.Finding.the-variants.{Fine}
 use Rattle.rules.specs.Plan.{planOf, chain}
 use Rattle.rules.specs.Grounds.{ground?, badLength, pilotsMax, chainGrounds, grounds1to5, grounds6to15, grounds1to15}
+use Rattle.rules.proofs.Findings.{not-fine, both-fine, when-fine}
 use Rattle.records.proofs.RecordLaws as record-laws
 use Rattle.plan.proofs.NotedLaws as chain-laws
 
--- a ground that is not found does not hold
-pub when-fine : (n place : ℕ) (b : Bool) → ground? n (when b place) ≡ Fine → b ≡ false
-when-fine n place true e = absurd (record-laws.not-fine e)
-when-fine n place false e = refl
-
 pub ground-none : (n : ℕ) (o : Option ℕ) → ground? n o ≡ Fine → isNone o ≡ true
 ground-none n none e = refl
-ground-none n (some k) e = absurd (record-laws.not-fine e)
+ground-none n (some k) e = absurd (not-fine e)
 
 module _ (d : Device) (s : List ℕ) (fine : grounds1to15 d s ≡ Fine) where
   stages : (grounds1to5 d s ≡ Fine) × (grounds6to15 d (planOf s) ≡ Fine)
   unfolding grounds1to15
-  stages = record-laws.both-fine (grounds1to5 d s) (grounds6to15 d (planOf s)) fine
+  stages = both-fine (grounds1to5 d s) (grounds6to15 d (planOf s)) fine
 
   pub later-fine : grounds6to15 d (planOf s) ≡ Fine
   later-fine = stages .1
 
   chain-stages : (ground? 1 (when (badLength s) 0) ≡ Fine) × (chainGrounds d (length s / 8) 0 (chain s) ≡ Fine)
   unfolding grounds1to5
-  chain-stages = record-laws.both-fine (ground? 1 (when (badLength s) 0)) (chainGrounds d (length s / 8) 0 (chain s)) (stages .0)
+  chain-stages = both-fine (ground? 1 (when (badLength s) 0)) (chainGrounds d (length s / 8) 0 (chain s)) (stages .0)
 
   pub long : 8 ≤ length s
   long = record-laws.length-fine s (when-fine 1 0 (badLength s) (chain-stages .0)) .some

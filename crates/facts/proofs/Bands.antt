@@ -16,8 +16,8 @@ use Rattle.rules.specs.Plan.{Plan}
 use Rattle.rules.specs.Bands.{active, width, startsBand, nextBand, bandEnd, firstBand, excludedIn}
 use Rattle.rules.specs.Grounds.{_else_, ground?, outside, aroundPlc, pilotClash, narrowBand, noWideBand, muchExcluded, muchInBand, fullWindow, manyRanked, grounds6to15}
 use Rattle.rules.proofs.Widths.{width-reaches}
-use Rattle.records.proofs.RecordLaws.{both-fine}
-use Rattle.facts.proofs.Accepted.{when-fine, ground-none}
+use Rattle.rules.proofs.Findings.{both-fine, when-fine}
+use Rattle.facts.proofs.Accepted.{ground-none}
 use Rattle.counting.proofs.Findings.{when-none, when-some, first-passed, first-found, highest-passes}
 
 -- grounds 10 and 13 of 6 to 15

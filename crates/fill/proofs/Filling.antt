@@ -8,12 +8,12 @@ use native.Mathlib.Nat.{add-zero}
 use native.Mathlib.Numerals.{add-one}
 use native.Mathlib.Decide.{decLt, le-ind}
 use native.Mathlib.Omega.{arith}
-use lib.Bits.{bitOr, or-zero-l, or-add-and, and-le-r}
+use lib.Bits.{bitOr}
 use lib.Dec.{eqb, eqb·suc-zero}
 use lib.ListN.{getD}
 use borrow.Author.Tests.{eq-eqb, ne-eqb}
 use Rattle.counting.specs.Search.{bit, sum, count, isZero}
-use Rattle.counting.proofs.Bools.{and-left, and-right}
+use Rattle.counting.proofs.Bools.{and-left, and-right, or-zero}
 use Rattle.counting.proofs.Laws.{count-lt, count-step}
 use Rattle.rules.specs.Frame.{placeholder, filler}
 use Rattle.fill.specs.Flags.{allData, dataCell, fillerCell}
@@ -70,13 +70,6 @@ filler-free flag p z = rw (zero-yes flag p z) refl
 pub filler-held : (flag : List ℕ) (p : ℕ) → (getD flag p 0 ≡ 0 → ⊥) → placeholder ≡ fillerCell flag p
 unfolding fillerCell
 filler-held flag p z = rw (zero-no flag p z) refl
-
--- ---- flags joined bit by bit
-or-zero : (a b : ℕ) → eqb (bitOr a b) 0 ≡ (eqb a 0 && eqb b 0)
-or-zero zero b = ap (λ (n : ℕ). eqb n 0) (or-zero-l b)
-or-zero (suc a) b =
-    ne-eqb (bitOr (suc a) b) 0 (λ z. absurd (omega (arith, or-add-and (suc a) b, and-le-r (suc a) b)))
-    ∙ sym (ap (λ (t : Bool). t && eqb b 0) (eqb·suc-zero a))
 
 -- ---- a block without a placeholder
 pub all-data-start : (flag : List ℕ) (p : ℕ) → eqb 0 0 ≡ allData flag p 0

@@ -10,7 +10,7 @@ use Rattle.counting.specs.Search.{bit, pick, count, select, tabulate, isZero}
 use Rattle.counting.proofs.Bools.{by-test}
 use Rattle.counting.proofs.Laws.{count-ext, count-lt}
 use Rattle.counting.proofs.Lists.{tabulate-cong}
-use Rattle.counting.proofs.Select.{select-ext}
+use Rattle.counting.proofs.Select.{selected, select-ext}
 use Rattle.rules.specs.Frame.{Frame, cells, held, isData, dataCount, dataList, inputCells, dataOf, flush, symbol, placeholder, filler}
 use Rattle.fill.specs.Flags.{dataCell, fillerCell, takenData, Flagged}
 
@@ -35,6 +35,15 @@ module _ (F : Frame) (j : ℕ) (flag : List ℕ) (hf : Flagged F j flag) where
   pub free-count : (n : ℕ) → n ≡ cells F → count (isZero flag) n ≡ dataCount F j
   unfolding dataCount
   free-count n e = rw e (free-below (cells F) (omega arith))
+
+  -- the data cells, as the flags have them
+  pub free-select : (n : ℕ) → n ≡ cells F → (c : ℕ) → c < dataCount F j
+      → (select (isZero flag) n c ≡ select (isData F j) (cells F) c) × (select (isData F j) (cells F) c < n)
+  unfolding dataCount
+  free-select n e c h = (
+    ap (λ (m : ℕ). select (isZero flag) m c) e ∙ select-ext (isZero flag) (isData F j) (cells F) c free (omega (arith, free-below (cells F) (omega arith))),
+    omega (arith, selected (isData F j) (cells F) c h .below),
+  )
 
   -- what `fill_data` leaves in N_I cells
   pub filled : (ds x : List ℕ) (n : ℕ) → n ≡ cells F → x ≡ tabulate (dataCell flag ds) n → x ≡ inputCells F j (symbol ds)

@@ -2,3 +2,5 @@ pub mod House
 pub mod Cells
 pub mod Some
 pub mod Counts
+pub mod Ordered
+pub mod Loads

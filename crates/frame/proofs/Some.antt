@@ -5,14 +5,10 @@ use mathlib.Core.Bool.{Bool, true, false, not}
 use native.Mathlib.Nat.{mod-lt}
 use native.Mathlib.Omega.{arith}
 use Rattle.counting.specs.Search.{bit, sum, count}
-use Rattle.counting.proofs.Laws.{count-lt}
+use Rattle.counting.proofs.Laws.{count-lt, bit-false}
 use Rattle.counting.proofs.Sums.{sum-cong, sum-swap, sum-add, sum-const, some-zero, sum-none→}
 use Rattle.rules.specs.Frame.{Frame, cells, spot, holder, delay, held, isData, dataCount}
 use Rattle.frame.proofs.Cells.{Sound, holder-below, spot-holder}
-
-bit-zero : (b : Bool) → bit b ≡ 0 → b ≡ false
-bit-zero true e = absurd (omega arith)
-bit-zero false e = refl
 
 not-not : (b : Bool) → not b ≡ false → b ≡ true
 not-not true e = refl
@@ -42,5 +38,5 @@ module _ (F : Frame) (ok : Sound F) where
       ∙ sum-const q (F .depth) in
       let r = some-zero (λ i. u i + w i) n (omega (arith, sum-add u w n, total, few)) in
       one-data j (a + r .0) (omega (arith, r .1))
-      (not-not (F .ranked (a + r .0)) (bit-zero (not (F .ranked (a + r .0))) (omega (arith, r .2))))
-      (λ d l. bit-zero _ (sum-none→ (λ d. bit (F .pattern ((j + d) % F .phases) (a + r .0))) (F .depth) (omega (arith, r .2)) d l))
+      (not-not (F .ranked (a + r .0)) (bit-false (not (F .ranked (a + r .0))) (omega (arith, r .2))))
+      (λ d l. bit-false _ (sum-none→ (λ d. bit (F .pattern ((j + d) % F .phases) (a + r .0))) (F .depth) (omega (arith, r .2)) d l))

@@ -9,11 +9,13 @@ use Rattle.rules.specs.declared.SendAnswer.{SendAnswer}
 use Rattle.rules.specs.declared.ReceiveAnswer.{ReceiveAnswer}
 use Rattle.rules.specs.Steps.{Starting, starts, Sending, leaves}
 use Rattle.rules.specs.Receive.{Listening, listens, Receiving, hears}
+use Rattle.rules.specs.declared.CountAnswer.{CountAnswer}
+use Rattle.rules.specs.Filling.{Filling, fills}
 use Rattle.modulator.specs.declared.ModulateAnswer.{ModulateAnswer}
 use Rattle.modulator.specs.Symbols.{Modulating, modulates}
 use Rattle.answers.specs.declared.Told.{Told}
-use Rattle.answers.specs.Answer.{written, toldStart, toldListen, toldSend, toldReceive, toldModulate}
-use Rattle.headend.specs.Calls.{says, saysStore, saysStep, saysNumbers, startTold, listenTold, sendTold, receiveTold, modulateTold}
+use Rattle.answers.specs.Answer.{written, toldStart, toldListen, toldSend, toldReceive, toldCount, toldModulate}
+use Rattle.headend.specs.Calls.{says, saysStore, saysStep, saysNumbers, startTold, listenTold, sendTold, receiveTold, modulateTold, saysFill, fillTold}
 
 -- what a call returns and writes of the answer t
 pub told : (n : ℕ) (a b : List ℕ) (t u : Told) → n ≡ t .number → b ≡ written a t → t ≡ u → says n b ≡ says (u .number) (written a u)
@@ -32,6 +34,9 @@ module _ (n : ℕ) (a b : List ℕ) (t : Told) (en : n ≡ t .number) (eb : b �
 
   pub receive-told : (r : ReceiveAnswer) (st y : List ℕ) (e : Receiving) → t ≡ toldReceive r → hears r st y ≡ e → saysStep n st y b ≡ receiveTold e a
   receive-told r st y e et es = rw (en, eb, et) (ap (λ (x : Receiving). receiveTold x a) es)
+
+  pub fill-told : (r : CountAnswer) (l : List ℕ) (e : Filling) → t ≡ toldCount r → fills r l ≡ e → saysFill n l b ≡ fillTold e a
+  fill-told r l e et es = rw (en, eb, et) (ap (λ (x : Filling). fillTold x a) es)
 
   pub modulate-told : (r : ModulateAnswer) (l : List Float) (e : Modulating) → t ≡ toldModulate r → modulates r l ≡ e → saysNumbers n l b ≡ modulateTold e a
   modulate-told r l e et es = rw (en, eb, et) (ap (λ (x : Modulating). modulateTold x a) es)

@@ -1,4 +1,4 @@
--- The calls for a C host (requests 01, 04 and 05): too short an answer buffer is ground 21 and leaves all as it is; else a call returns and
+-- The calls for a C host (requests 01, 04, 05 and 07): too short an answer buffer is ground 21 and leaves all as it is; else a call returns and
 -- leaves what the entry beneath it answers and leaves. Assumes nothing.
 use Prim.Native.Nat.{ℕ}
 use mathlib.Core.List.{List}
@@ -9,8 +9,9 @@ use Rattle.rules.specs.Grounds.{verdict}
 use Rattle.rules.specs.Answers.{roleAnswer}
 use Rattle.rules.specs.Steps.{Starting, Sending, dataCountAnswer}
 use Rattle.rules.specs.Receive.{Listening, Receiving}
+use Rattle.rules.specs.Filling.{Filling}
 use Rattle.exclusion.specs.Trial.{trialOfNumbers}
-use Rattle.bytecells.specs.ByteSteps.{startBytes, listenBytes, emitBytes, flushBytes, receiveBytes}
+use Rattle.bytecells.specs.ByteSteps.{startBytes, listenBytes, emitBytes, flushBytes, receiveBytes, fillBytes, unfillBytes}
 use Rattle.modulator.specs.Symbols.{Modulating}
 use Rattle.bytemodulate.specs.ByteSymbols.{modulateBytes}
 use Rattle.answers.specs.declared.Told.{Told}
@@ -53,6 +54,14 @@ pub record NumbersSaid : Type 0 where
 abbrev pub saysNumbers : ℕ → List Float → List ℕ → NumbersSaid
 saysNumbers n l a = record { said = says n a; numbers = l }
 
+-- the same, with the lent data or stream
+pub record FillSaid : Type 0 where
+  pub said : Said
+  pub left : List ℕ
+
+abbrev pub saysFill : ℕ → List ℕ → List ℕ → FillSaid
+saysFill n l a = record { said = says n a; left = l }
+
 -- what a call says of what the entry beneath it answered and left
 abbrev pub startTold : Starting → List ℕ → StoreSaid
 startTold r a = saysStore (toldStart (r .answer) .number) (r .store) (written a (toldStart (r .answer)))
@@ -68,6 +77,9 @@ receiveTold r a = saysStep (toldReceive (r .answer) .number) (r .store) (r .buff
 
 abbrev pub modulateTold : Modulating → List ℕ → NumbersSaid
 modulateTold r a = saysNumbers (toldModulate (r .answer) .number) (r .numbers) (written a (toldModulate (r .answer)))
+
+abbrev pub fillTold : Filling → List ℕ → FillSaid
+fillTold r a = saysFill (toldCount (r .answer) .number) (r .left) (written a (toldCount (r .answer)))
 
 module _ (d : Device) (s : List ℕ) where
   unfoldable pub judgeCall : List ℕ → Said
@@ -92,18 +104,26 @@ module _ (d : Device) (s : List ℕ) where
   unfoldable pub listenCall : ℕ → List ℕ → List ℕ → StoreSaid
   listenCall j store a = pick (short a) (saysStore 21 store a) (listenTold (listenBytes d s j store) a)
 
-  -- the phase, the lent store, the data and the lent symbol
-  unfoldable pub emitCall : ℕ → List ℕ → List ℕ → List ℕ → List ℕ → StepSaid
-  emitCall j store ds room a = pick (short a) (saysStep 21 store room a) (sendTold (emitBytes d s (record { phase = j }) store ds room) a)
+  -- the load profile, the phase, the lent store, the data and the lent symbol
+  unfoldable pub emitCall : List ℕ → ℕ → List ℕ → List ℕ → List ℕ → List ℕ → StepSaid
+  emitCall w j store ds room a = pick (short a) (saysStep 21 store room a) (sendTold (emitBytes d s w (record { phase = j }) store ds room) a)
 
-  -- the same without data
+  -- the same without profile and data
   unfoldable pub flushCall : ℕ → List ℕ → List ℕ → List ℕ → StepSaid
   flushCall j store room a = pick (short a) (saysStep 21 store room a) (sendTold (flushBytes d s (record { phase = j }) store room) a)
 
-  -- the phase and heard, the lent store, the arriving symbol and the lent data buffer
-  unfoldable pub receiveCall : ℕ → ℕ → List ℕ → List ℕ → List ℕ → List ℕ → StepSaid
-  receiveCall j h store y b a =
-      pick (short a) (saysStep 21 store b a) (receiveTold (receiveBytes d s (record { phase = j; heard = h }) store y b) a)
+  -- the load profile, the phase and heard, the lent store, the arriving symbol and the lent data buffer
+  unfoldable pub receiveCall : List ℕ → ℕ → ℕ → List ℕ → List ℕ → List ℕ → List ℕ → StepSaid
+  receiveCall w j h store y b a =
+      pick (short a) (saysStep 21 store b a) (receiveTold (receiveBytes d s w (record { phase = j; heard = h }) store y b) a)
+
+  -- the load profile, the phase, the stream, the start and the lent data
+  unfoldable pub fillCall : List ℕ → ℕ → List ℕ → ℕ → List ℕ → List ℕ → FillSaid
+  fillCall w j stream start room a = pick (short a) (saysFill 21 room a) (fillTold (fillBytes d s w j stream start room) a)
+
+  -- the load profile, the phase, the data, the start and the lent stream
+  unfoldable pub unfillCall : List ℕ → ℕ → List ℕ → ℕ → List ℕ → List ℕ → FillSaid
+  unfillCall w j ds start stream a = pick (short a) (saysFill 21 stream a) (fillTold (unfillBytes d s w j ds start stream) a)
 
 -- no plan: the symbol on the line, the load of each subcarrier, the sign of each subcarrier's pilot and the lent modulator symbol
 unfoldable pub modulateCall : Device → List ℕ → List ℕ → List ℕ → List Float → List ℕ → NumbersSaid

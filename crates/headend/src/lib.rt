@@ -3,7 +3,7 @@
 // out in the buffer.
 ghost use mathlib.Core.Path.{_≡_};
 ghost use Rattle.rules.specs.Device.{khz50};
-ghost use Rattle.headend.specs.Calls.{says, saysStore, saysStep, saysNumbers, judgeCall, tryCall, roleCall, countCall, startCall, listenCall, emitCall, flushCall, receiveCall, modulateCall};
+ghost use Rattle.headend.specs.Calls.{says, saysStore, saysStep, saysFill, saysNumbers, judgeCall, tryCall, roleCall, countCall, startCall, listenCall, emitCall, flushCall, receiveCall, fillCall, unfillCall, modulateCall};
 use rules::EmitterState;
 use rules::ReceiverState;
 
@@ -102,13 +102,14 @@ pub extern "C" fn headend_fresh_receiver(
 #[no_mangle]
 pub extern "C" fn headend_emit(
     plan: &[u8],
+    profile: &[u8],
     phase: u32,
     store: &mut [u8],
     input: &[u8],
     symbol: &mut [u8],
     answer: &mut [u8],
 ) -> u32
-    ensures { λ r. ⌜ saysStep r (now (store .exit)) (now (symbol .exit)) (now (answer .exit)) ≡ emitCall khz50 (now (plan .entry)) phase (now (store .entry)) (now (input .entry)) (now (symbol .entry)) (now (answer .entry)) ⌝ }
+    ensures { λ r. ⌜ saysStep r (now (store .exit)) (now (symbol .exit)) (now (answer .exit)) ≡ emitCall khz50 (now (plan .entry)) (now (profile .entry)) phase (now (store .entry)) (now (input .entry)) (now (symbol .entry)) (now (answer .entry)) ⌝ }
 {
     if answer.len() < ANSWER {
         return 21;
@@ -116,7 +117,7 @@ pub extern "C" fn headend_emit(
     let state = EmitterState { phase };
     answers::tell(
         answer,
-        answers::told_send(byteemitter::emit(plan, state, store, input, symbol)),
+        answers::told_send(byteemitter::emit(plan, profile, state, store, input, symbol)),
     )
 }
 
@@ -145,6 +146,7 @@ pub extern "C" fn headend_flush(
 #[no_mangle]
 pub extern "C" fn headend_receive(
     plan: &[u8],
+    profile: &[u8],
     phase: u32,
     heard: u32,
     store: &mut [u8],
@@ -152,7 +154,7 @@ pub extern "C" fn headend_receive(
     buffer: &mut [u8],
     answer: &mut [u8],
 ) -> u32
-    ensures { λ r. ⌜ saysStep r (now (store .exit)) (now (buffer .exit)) (now (answer .exit)) ≡ receiveCall khz50 (now (plan .entry)) phase heard (now (store .entry)) (now (symbol .entry)) (now (buffer .entry)) (now (answer .entry)) ⌝ }
+    ensures { λ r. ⌜ saysStep r (now (store .exit)) (now (buffer .exit)) (now (answer .exit)) ≡ receiveCall khz50 (now (plan .entry)) (now (profile .entry)) phase heard (now (store .entry)) (now (symbol .entry)) (now (buffer .entry)) (now (answer .entry)) ⌝ }
 {
     if answer.len() < ANSWER {
         return 21;
@@ -160,7 +162,51 @@ pub extern "C" fn headend_receive(
     let state = ReceiverState { phase, heard };
     answers::tell(
         answer,
-        answers::told_receive(bytereceiver::receive(plan, state, store, symbol, buffer)),
+        answers::told_receive(bytereceiver::receive(plan, profile, state, store, symbol, buffer)),
+    )
+}
+
+// Fills a data symbol from a bit stream.
+#[no_mangle]
+pub extern "C" fn headend_fill(
+    plan: &[u8],
+    profile: &[u8],
+    phase: u32,
+    stream: &[u8],
+    start: usize,
+    input: &mut [u8],
+    answer: &mut [u8],
+) -> u32
+    ensures { λ r. ⌜ saysFill r (now (input .exit)) (now (answer .exit)) ≡ fillCall khz50 (now (plan .entry)) (now (profile .entry)) phase (now (stream .entry)) start (now (input .entry)) (now (answer .entry)) ⌝ }
+{
+    if answer.len() < ANSWER {
+        return 21;
+    }
+    answers::tell(
+        answer,
+        answers::told_count(bytefilling::fill(plan, profile, phase, stream, start, input)),
+    )
+}
+
+// The way back: puts the bits of a data symbol into a bit stream.
+#[no_mangle]
+pub extern "C" fn headend_unfill(
+    plan: &[u8],
+    profile: &[u8],
+    phase: u32,
+    input: &[u8],
+    start: usize,
+    stream: &mut [u8],
+    answer: &mut [u8],
+) -> u32
+    ensures { λ r. ⌜ saysFill r (now (stream .exit)) (now (answer .exit)) ≡ unfillCall khz50 (now (plan .entry)) (now (profile .entry)) phase (now (input .entry)) start (now (stream .entry)) (now (answer .entry)) ⌝ }
+{
+    if answer.len() < ANSWER {
+        return 21;
+    }
+    answers::tell(
+        answer,
+        answers::told_count(bytefilling::unfill(plan, profile, phase, input, start, stream)),
     )
 }
 

@@ -52,10 +52,14 @@ pub(crate) fn refusal(number: u32) -> u32 {
     std::num::wrapping_add_u32(100, number)
 }
 
+// The phase of an input symbol.
+pub(crate) fn phase_of(link: Link, input: u32) -> u32 {
+    std::num::wrapping_add_u32(link.start, input) % 128
+}
+
 // N_D of an input symbol, from the counts of all phases.
 pub(crate) fn count_of(link: Link, input: u32, counts: &[u16; PHASES]) -> usize {
-    let phase = std::num::wrapping_add_u32(link.start, input) % 128;
-    samples::at(counts, phase as usize) as usize
+    samples::at(counts, phase_of(link, input) as usize) as usize
 }
 
 // The link after a difference; the first is printed, as a text with its numbers.

@@ -1,4 +1,5 @@
 // The receives of linkcheck: before each right one a wrong one, which has to be refused.
+use crate::limits;
 use crate::link::Link;
 use crate::link::PHASES;
 use crate::link::RIGHT;
@@ -80,10 +81,10 @@ fn tried(link: Link, kind: u32, code: u32, place: usize) -> bool {
     }
 }
 
-// By what a cell of the symbol is spoiled.
-fn cell_of(kind: u32) -> u16 {
+// By what a cell of the symbol is spoiled: data by the number above the limit of its load.
+fn cell_of(kind: u32, load: u8) -> u16 {
     if kind == 7 {
-        return 16384;
+        return limits::above(load);
     }
     0
 }
@@ -107,12 +108,18 @@ fn code_of_data(n: u32, count: usize) -> u32 {
 }
 
 // The link after the data buffer was compared with the first `count` cells of an input symbol.
-fn compared(link: Link, input: u32, count: usize, cells: &[u16; SYMBOL]) -> Link {
-    let at = samples::inputs::first_other(link.start, input, count, cells);
+fn compared(
+    link: Link,
+    input: u32,
+    count: usize,
+    limits: &[u16; SYMBOL],
+    cells: &[u16; SYMBOL],
+) -> Link {
+    let at = samples::inputs::first_other(link.start, input, count, limits, cells);
     if SYMBOL <= at {
         return link;
     }
-    let wanted = samples::inputs::wanted(link.start, input, count, at);
+    let wanted = samples::inputs::wanted(link.start, input, count, limits, at);
     let found = samples::at(cells, at);
     differs(
         link,
@@ -131,7 +138,14 @@ fn compared(link: Link, input: u32, count: usize, cells: &[u16; SYMBOL]) -> Link
 
 // The link after a receive with this answer: a wrong one leaves the data buffer as it was. A state other than the link's own, which the
 // kinds 0 to 2 are given, is not taken back.
-fn told(link: Link, kind: u32, due: Due, answer: ReceiveAnswer, cells: &[u16; SYMBOL]) -> Link {
+fn told(
+    link: Link,
+    kind: u32,
+    due: Due,
+    answer: ReceiveAnswer,
+    limits: &[u16; SYMBOL],
+    cells: &[u16; SYMBOL],
+) -> Link {
     let mut next = link;
     let mut got = WARMING;
     match answer {
@@ -152,17 +166,20 @@ fn told(link: Link, kind: u32, due: Due, answer: ReceiveAnswer, cells: &[u16; SY
     }
     let judged = answered(next, code_of(kind, due), got);
     if kind == RIGHT {
-        return compared(judged, due.input, due.count, cells);
+        return compared(judged, due.input, due.count, limits, cells);
     }
-    compared(judged, link.t, 0, cells)
+    compared(judged, link.t, 0, limits, cells)
 }
 
-// The link after a receive of a kind, if it is tried; the symbol is spoiled for it, and is then as before.
+// The link after a receive of a kind, if it is tried; the symbol is spoiled for it, and is then as before. The limits are those of the data
+// cells that are due.
 pub(crate) fn receive(
     link: Link,
     kind: u32,
     due: Due,
     plan: &[u8],
+    profile: &[u8],
+    limits: &[u16; SYMBOL],
     store: &mut [u16; STORE],
     symbol: &mut [u16; SYMBOL],
 ) -> Link {
@@ -172,8 +189,9 @@ pub(crate) fn receive(
     }
     let given = receiving(link, kind, due.count);
     let mut cells = [43981u16; SYMBOL];
-    let old = samples::swap(symbol, place, cell_of(kind));
-    let answer = trials::receive(plan, given, store, symbol, &mut cells);
+    let load = limits::load_at(profile, place);
+    let old = samples::swap(symbol, place, cell_of(kind, load));
+    let answer = trials::receive(plan, profile, given, store, symbol, &mut cells);
     samples::swap(symbol, place, old);
-    told(link, kind, due, answer, &cells)
+    told(link, kind, due, answer, limits, &cells)
 }

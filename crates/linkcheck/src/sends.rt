@@ -11,8 +11,8 @@ use crate::link::refusal;
 use rules::SendAnswer;
 use trials::Sending;
 
-// What a send of a kind is given; nd is N_D. Wrong: with a cell too few, with a cell too many, with 16384 in the middle, 128 phases on, a flush
-// at phase 128, a flush with a symbol of 4,095 cells, with a store that is a cell too short, with the mark of filler as data.
+// What a send of a kind is given; nd is N_D. Wrong: with a cell too few, with a cell too many, with one above its limit in the middle, 128
+// phases on, a flush at phase 128, a flush with a symbol of 4,095 cells, with a store that is a cell too short, with the mark of filler as data.
 fn sending(link: Link, kind: u32, nd: usize) -> Sending {
     let state = link.emitter;
     let mut given = Sending {
@@ -50,10 +50,10 @@ fn place_of(kind: u32, nd: usize) -> usize {
     }
 }
 
-// By what it is spoiled.
-fn cell_of(kind: u32) -> u16 {
+// By what it is spoiled: the number above its limit, or the mark of filler.
+fn cell_of(kind: u32, limit: u16) -> u16 {
     if kind == 2 {
-        return 16384;
+        return std::num::wrapping_add_u16(limit, 1);
     }
     0x8001
 }
@@ -88,12 +88,15 @@ fn told(link: Link, kind: u32, answer: SendAnswer) -> Link {
     answered(next, code_of(kind), got)
 }
 
-// The link after a send of a kind; nd is N_D. A store that is too short is tried only where one is needed.
+// The link after a send of a kind; nd is N_D, and the limits are those of its data cells. A store that is too short is tried only where one is
+// needed.
 pub(crate) fn send(
     link: Link,
     kind: u32,
     nd: usize,
     plan: &[u8],
+    profile: &[u8],
+    limits: &[u16; SYMBOL],
     store: &mut [u16; STORE],
     symbol: &mut [u16; SYMBOL],
 ) -> Link {
@@ -103,8 +106,9 @@ pub(crate) fn send(
     let given = sending(link, kind, nd);
     let seed = samples::inputs::seed(link.start, link.t);
     let mut cells = [0u16; SYMBOL];
-    samples::inputs::draw(seed, given.count, &mut cells);
-    samples::swap(&mut cells, place_of(kind, nd), cell_of(kind));
-    let answer = trials::send(plan, given, store, &cells, symbol);
+    samples::inputs::draw(seed, given.count, limits, &mut cells);
+    let place = place_of(kind, nd);
+    samples::swap(&mut cells, place, cell_of(kind, samples::at(limits, place)));
+    let answer = trials::send(plan, profile, given, store, &cells, symbol);
     told(link, kind, answer)
 }

@@ -19,7 +19,7 @@ use Rattle.rules.specs.declared.SendAnswer.the-variants as a-send
 use Rattle.rules.specs.Grounds.{_else_, ground?}
 use Rattle.rules.specs.Frame.{Frame, cells, delay, nextPhase, phaseBack, Given, flush, inputCells, lineSymbol}
 use Rattle.rules.specs.Store.{emitterPlaces, freshStore}
-use Rattle.rules.specs.Steps.{Emitter, Send, Sending, refused, ground16, shortStore, ground17, givenGrounds, sendGrounds, nextState, sentStore, sentSymbol, accepted, frameStep, startGrounds}
+use Rattle.rules.specs.Steps.{Emitter, Send, Sending, refused, ground16, shortStore, ground17, profileGround, givenGrounds, sendGrounds, nextState, sentStore, sentSymbol, accepted, frameStep, startGrounds}
 use Rattle.frame.proofs.Cells.{Sound, length-input}
 use Rattle.runs.specs.Run.{isSent, emitterLeft, sendings, input, sent}
 use Rattle.runs.proofs.Steps.{frameEntries, as-given, not-refused, FreshIn, freshEmitter}
@@ -53,7 +53,11 @@ module _ (F : Frame) (ok : Sound F) (e : Emitter) (l : long.Emitter) (a : Send) 
       rw (alike .state, lt-leb (F .depth) (l .state .row) (alike .stores .row-in)) (sym (or-false (leb (F .phases) (l .state .phase)))) in
       let s : ltb (length (e .store)) (emitterPlaces F) ≡ ltb (length (l .store)) (F .depth * cells F) =
       le-ltb (length (e .store)) (emitterPlaces F) (alike .stores .places-fit) ∙ sym (le-ltb (length (l .store)) (F .depth * cells F) (alike .stores .rows-fit)) in
-      λ i. ground? 16 (when (j i) 0) else ground? 17 (when (s i || not (eqb (length (a .room)) (F .width))) 0) else givenGrounds F (alike .state i .phase) (a .given)
+      λ i.
+      profileGround F (a .profile) (a .given)
+      else ground? 16 (when (j i) 0)
+      else ground? 17 (when (s i || not (eqb (length (a .room)) (F .width))) 0)
+      else givenGrounds F (a .profile) (alike .state i .phase) (a .given)
 
   same-symbol : sentSymbol F e (a .given) ≡ long.sentSymbol F l (a .given)
   unfolding sentSymbol long.sentSymbol long.sentStore

@@ -21,6 +21,7 @@ use Rattle.rules.specs.Frame.{Frame, cells, filler, lineCells, dataOf}
 use Rattle.rules.specs.Places.{receiverDelay, placesBefore}
 use Rattle.rules.specs.Store.{receiverPlaces, fillerStore}
 use Rattle.rules.specs.Steps.{shortStore, startGrounds}
+use Rattle.rules.specs.Loads.{ground25}
 use Rattle.rules.specs.Receive.{Receiver, Arrival, Receiving, turnedAway, warming, outPhase, outCount, shortBuffer, receiverGround16, receiverGround17, ground20, receiveGrounds, heardState, heardStore, handed, received, frameReceive}
 use Rattle.frame.proofs.Cells.{Sound, length-line-cells}
 use Rattle.places.proofs.Kept.{start-grow}
@@ -63,9 +64,10 @@ module _ (F : Frame) (ok : Sound F) (v : Receiver) (l : long.Receiver) (a : Arri
       let s : ltb (length (v .store)) (receiverPlaces F) ≡ ltb (length (l .store)) (F .depth * cells F) =
       le-ltb (length (v .store)) (receiverPlaces F) (alike .stores .places-fit) ∙ sym (le-ltb (length (l .store)) (F .depth * cells F) (alike .stores .rows-fit)) in
       λ i.
-      ground? 16 (when (j i || leb (F .depth) (alike .state i .heard)) 0)
+      ground25 (F .width) (a .profile)
+      else ground? 16 (when (j i || leb (F .depth) (alike .state i .heard)) 0)
       else ground? 17 (when (s i || not (eqb (length (a .symbol)) (F .width)) || shortBuffer F (alike .state i) (a .buffer)) 0)
-      else ground20 F (alike .state i .phase) (a .symbol)
+      else ground20 F (a .profile) (alike .state i .phase) (a .symbol)
 
   same-handed : handed F v (a .symbol) ≡ long.handed F l (a .symbol)
   unfolding handed long.handed long.heardStore

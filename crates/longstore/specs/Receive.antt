@@ -1,6 +1,6 @@
--- What the receiver's entries answer and leave with the long store: grounds 1 to 15, then 16, 17 and 20 (document 01, "Cells and interleaving", "State" and
--- "The twenty grounds"). A refused step changes nothing and hands the state back. The steps of crate rules are compared with these (02, request 03); no
--- code needs them. Assumes nothing.
+-- What the receiver's entries answer and leave with the long store: grounds 1 to 15 and 25, then 16, 17 and 20 (document 01, "Cells and interleaving", "State"
+-- and "The twenty grounds"; 02, request 07). A refused step changes nothing and hands the state back. The steps of crate rules are compared with these (02,
+-- request 03); no code needs them. Assumes nothing.
 use Prim.Native.Nat.{ℕ, _+_, _-_}
 use mathlib.Core.Bool.{Bool, not, _&&_, _||_}
 use mathlib.Core.List.{List}
@@ -14,6 +14,7 @@ use Rattle.rules.specs.declared.Finding.the-variants.{Fine, Ground}
 use Rattle.rules.specs.Plan.{planOf}
 use Rattle.rules.specs.Grounds.{_else_, ground?, grounds1to15}
 use Rattle.rules.specs.Frame.{Frame, frameOf, cells, delay, nextPhase, dataCount, lineCells, dataOf}
+use Rattle.rules.specs.Loads.{ground25}
 use Rattle.rules.specs.Receive.{Arrival, outPhase, ground20}
 use Rattle.longstore.specs.declared.ReceiverState.{ReceiverState}
 use Rattle.longstore.specs.declared.ListenAnswer.{ListenAnswer}
@@ -70,9 +71,13 @@ module _ (F : Frame) where
   receiverGround17 v a =
       ground? 17 (when (shortStore F (v .store) || not (eqb (length (a .symbol)) (F .width)) || shortBuffer (v .state) (a .buffer)) 0)
 
-  -- the grounds of a receive step under an accepted plan
+  -- the grounds of a receive step under an accepted plan; 25 is tried after 15
   unfoldable pub receiveGrounds : Receiver → Arrival → Finding
-  receiveGrounds v a = receiverGround16 (v .state) else receiverGround17 v a else ground20 F (v .state .phase) (a .symbol)
+  receiveGrounds v a =
+      ground25 (F .width) (a .profile)
+      else receiverGround16 (v .state)
+      else receiverGround17 v a
+      else ground20 F (a .profile) (v .state .phase) (a .symbol)
 
   -- phase and row go up by one; heard does while warming
   unfoldable pub heardState : ReceiverState → ReceiverState

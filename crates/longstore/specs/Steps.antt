@@ -1,6 +1,6 @@
--- What the emitter's entries answer and leave with the long store: grounds 1 to 15, then those of 16 to 19 that speak of what the entry is given
--- (document 01, "Cells and interleaving", "State" and "The twenty grounds"). A refused step changes nothing and hands the state back. The steps of crate
--- rules are compared with these (02, request 03); no code needs them. Assumes nothing.
+-- What the emitter's entries answer and leave with the long store: grounds 1 to 15 and 25, then those of 16 to 19 that speak of what the entry is given
+-- (document 01, "Cells and interleaving", "State" and "The twenty grounds"; 02, request 07). A refused step changes nothing and hands the state back. The
+-- steps of crate rules are compared with these (02, request 03); no code needs them. Assumes nothing.
 use Prim.Native.Nat.{ℕ, _*_}
 use mathlib.Core.Bool.{Bool, not, _||_}
 use mathlib.Core.List.{List}
@@ -13,7 +13,7 @@ use Rattle.rules.specs.declared.Finding.the-variants.{Fine, Ground}
 use Rattle.rules.specs.Plan.{planOf}
 use Rattle.rules.specs.Grounds.{_else_, ground?, grounds1to15}
 use Rattle.rules.specs.Frame.{Frame, frameOf, cells, delay, nextPhase, Given, inputCells, lineSymbol}
-use Rattle.rules.specs.Steps.{Send, ground16, givenGrounds}
+use Rattle.rules.specs.Steps.{Send, ground16, profileGround, givenGrounds}
 use Rattle.longstore.specs.declared.EmitterState.{EmitterState}
 use Rattle.longstore.specs.declared.StartAnswer.{StartAnswer}
 use Rattle.longstore.specs.declared.SendAnswer.{SendAnswer}
@@ -61,7 +61,11 @@ module _ (F : Frame) where
 
   -- the grounds of an emit or flush step under an accepted plan
   unfoldable pub sendGrounds : Emitter → Send → Finding
-  sendGrounds e a = stateGround16 (e .state .phase) (e .state .row) else ground17 (e .store) (a .room) else givenGrounds F (e .state .phase) (a .given)
+  sendGrounds e a =
+      profileGround F (a .profile) (a .given)
+      else stateGround16 (e .state .phase) (e .state .row)
+      else ground17 (e .store) (a .room)
+      else givenGrounds F (a .profile) (e .state .phase) (a .given)
 
   -- phase and row go up by one
   unfoldable pub nextState : EmitterState → EmitterState

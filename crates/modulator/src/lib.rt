@@ -4,10 +4,11 @@ ghost use mathlib.Core.Path.{_≡_};
 ghost use mathlib.Core.Bool.{true};
 ghost use Prim.Native.Nat.{ℕ, _+_, _*_, _<_, _≤_};
 ghost use lib.ListN.{length};
+ghost use Rattle.rules.specs.Loads.{pointLoad};
 ghost use Rattle.points.specs.Points.{loadListed};
 ghost use Rattle.modulator.specs.Lines.{amplitude, markLine, lineAnswer, nearLineAnswer};
 ghost use Rattle.modulator.specs.Symbols.{pair, put};
-ghost use Rattle.modulator.specs.Claims.{LineClaims};
+ghost use Rattle.modulator.specs.Claims.{LineClaims, ProfileClaims};
 use gray::power;
 use points::load_listed;
 use scaling::ScaledPoint;
@@ -109,4 +110,19 @@ pub fn fill_subcarrier(out: &mut [f32], k: usize, line: OnLine)
 // Every listed load: what stands on the line for each of the five marks, and past them.
 pub fn line_claims()
     ensures { λ _. ⌜ ((m : ℕ) → loadListed m ≡ true → LineClaims m) ⌝ }
+{}
+
+// The load with which the modulator is given a subcarrier of a load profile (request 07): load 1 for load 0, else the same.
+pub fn point_load(load: u32) -> u32
+    ensures { λ r. ⌜ r ≡ pointLoad load ⌝ }
+{
+    if load == 0 {
+        return 1;
+    }
+    load
+}
+
+// Every load that a profile may hold: what its limit allows, and every mark, stands on the line at `point_load` of it.
+pub fn profile_claims()
+    ensures { λ _. ⌜ ProfileClaims ⌝ }
 {}

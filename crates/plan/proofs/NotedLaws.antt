@@ -17,7 +17,8 @@ use Rattle.rules.specs.Plan.{Entry, number, entry, leads, chain, chainFrom, onl
 use Rattle.rules.specs.Bands.{any, excluded}
 use Rattle.rules.specs.Grounds.{_else_, ground?, badLength, pilotsMax, recordGrounds, chainGrounds, grounds1to5}
 use Rattle.ranges.specs.Reach.{hit}
-use Rattle.records.proofs.RecordLaws.{both-fine, length-fine, fine-first, fine-plc, fine-depth, fine-few, fine-pilot}
+use Rattle.rules.proofs.Findings.{both-fine}
+use Rattle.records.proofs.RecordLaws.{length-fine, fine-first, fine-plc, fine-depth, fine-few, fine-pilot}
 use Rattle.plan.specs.Noted.{Noted}
 use Rattle.plan.specs.Walk.{Left}
 

@@ -1,6 +1,7 @@
 // Sends symbols and receives them with `fresh::fresh_receiver` and `receiver::receive`, and prints what tests/receives.py works out with the
 // second model: a line for each case, how many receives answered warming, data and a refusal, and the checksum of every answer, of the
-// data buffer after each receive and of the store at the end. A fresh start that is refused prints `refused`, number, place and the checksum.
+// data buffer after each receive and of the store at the end. Every subcarrier has load 14. A fresh start that is refused prints `refused`,
+// number, place and the checksum.
 // Standard input holds, for each case, four numbers of four bytes each, high byte first: the plan's length, the starting phase, how
 // many cells the store needs and the number of acts; then the plan, and the acts. tests/receives.py says what the acts are and makes stdin and stdout.
 use rules::EmitterState;
@@ -12,7 +13,7 @@ use rules::StartAnswer;
 use trials::Receiving;
 use trials::Sending;
 
-// The cells of a store, of a symbol, and of the line.
+// The cells of a store, of a symbol, which has as many as there are subcarriers, and of the line.
 const STORE: usize = 60000;
 
 const SYMBOL: usize = 4096;
@@ -21,6 +22,9 @@ const LINE: usize = 4097;
 
 // What stands in all cells at the start of a case.
 const BEFORE: u16 = 43981;
+
+// The load of every subcarrier: with it a data cell may be any number up to 16383.
+const LOAD: u8 = 14;
 
 // A run: whether all its acts could be read, both states, the generator of data, the checksum, and how many receives answered warming, data
 // and a refusal.
@@ -50,7 +54,14 @@ struct Act {
 }
 
 // The run after an emit of N_D generated cells, or after a flush, onto the first cells of the line; acts of the receiver send nothing.
-fn send(run: Run, act: u8, plan: &[u8], store: &mut [u16; STORE], line: &mut [u16; LINE]) -> Run {
+fn send(
+    run: Run,
+    act: u8,
+    plan: &[u8],
+    profile: &[u8; SYMBOL],
+    store: &mut [u16; STORE],
+    line: &mut [u16; LINE],
+) -> Run {
     if 2 <= act {
         return run;
     }
@@ -69,7 +80,7 @@ fn send(run: Run, act: u8, plan: &[u8], store: &mut [u16; STORE], line: &mut [u1
     let mut cells = [0u16; SYMBOL];
     let mut next = run;
     next.x = samples::draw(run.x, count, &mut cells);
-    if let SendAnswer::Sent(after) = trials::send(plan, given, store, &cells, line) {
+    if let SendAnswer::Sent(after) = trials::send(plan, profile, given, store, &cells, line) {
         next.emitter = after;
     }
     next
@@ -157,6 +168,7 @@ fn receive(
     run: Run,
     given: Act,
     plan: &[u8],
+    profile: &[u8; SYMBOL],
     store: &mut [u16; STORE],
     line: &mut [u16; LINE],
     buffer: &mut [u16; SYMBOL],
@@ -167,7 +179,7 @@ fn receive(
     let first = changed(line, given.first);
     let second = changed(line, given.second);
     let step = receiving(run.receiver, given);
-    let answer = trials::receive(plan, step, store, line, buffer);
+    let answer = trials::receive(plan, profile, step, store, line, buffer);
     changed(line, second);
     changed(line, first);
     let mut next = told(run, answer);
@@ -183,6 +195,7 @@ fn acts(
     sent: &mut [u16; STORE],
     store: &mut [u16; STORE],
 ) -> Run {
+    let profile = [LOAD; SYMBOL];
     let mut line = [BEFORE; LINE];
     let mut buffer = [BEFORE; SYMBOL];
     let mut run = begun;
@@ -193,8 +206,16 @@ fn acts(
             run.read = false;
             return run;
         }
-        let sending = send(run, given.act, plan, sent, &mut line);
-        let next = receive(sending, given, plan, store, &mut line, &mut buffer);
+        let sending = send(run, given.act, plan, &profile, sent, &mut line);
+        let next = receive(
+            sending,
+            given,
+            plan,
+            &profile,
+            store,
+            &mut line,
+            &mut buffer,
+        );
         run = next;
         left -= 1;
     }

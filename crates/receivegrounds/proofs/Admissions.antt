@@ -1,6 +1,6 @@
 -- What a receive step is answered, return by return, and what the answer tells of the step. Assumes nothing.
 use mathlib.Core.Path.{_≡_, refl, sym, ap, _∙_}
-use mathlib.Core.List.{List}
+use mathlib.Core.List.{List, []}
 use Prim.Native.Nat.{ℕ, _≤_}
 use native.Mathlib.Omega.{arith}
 use Rattle.counting.proofs.Laws.{count-le}
@@ -13,7 +13,9 @@ use Rattle.rules.specs.Device.{phases}
 use Rattle.rules.specs.Plan.{planOf}
 use Rattle.rules.specs.Grounds.{_else_, grounds1to15}
 use Rattle.rules.specs.Frame.{Frame, frameOf, cells}
-use Rattle.rules.specs.Receive.{Receiver, Arrival, Receiving, hears, turnedAway, outCount, receiveGrounds, received, frameReceive, hearStep}
+use Rattle.rules.specs.Loads.{ground25}
+use Rattle.rules.specs.Receive.{Receiver, Arrival, Receiving, hears, turnedAway, outCount, receiverGround16, receiverGround17, ground20, receiveGrounds, received, frameReceive, hearStep}
+use Rattle.receiving.proofs.Answers.{arriving, unprofiled}
 use Rattle.receivegrounds.specs.declared.Admission.the-variants.{Admitted, Refused}
 use Rattle.receivegrounds.specs.Stages.{earlyGrounds, lateGrounds, answered, admission}
 use Rattle.receivegrounds.specs.InOrder.{ReceiveInOrder}
@@ -44,11 +46,23 @@ module _ (d : Device) (s : List ℕ) (v : Receiver) (a : Arrival) where
   unfolding admission
   bad-plan g place e = sym (ap (λ (f : Finding). answered frame (v .state) (f else receiveGrounds frame v a)) e)
 
-  module _ (fine : grounds1to15 d s ≡ Fine) where
+  -- refused by 25
+  pub bad-profile : grounds1to15 d s ≡ Fine → (g place : ℕ) → ground25 (frame .width) (a .profile) ≡ Ground g place → Refused g place ≡ admission d s v a
+  unfolding admission receiveGrounds
+  bad-profile fine g place e =
+      sym
+      (λ i. answered frame (v .state)
+      (fine i
+      else e i
+      else receiverGround16 frame (v .state)
+      else receiverGround17 frame v a
+      else ground20 frame (a .profile) (v .state .phase) (a .symbol)))
+
+  module _ (fine : grounds1to15 d s ≡ Fine) (listed : ground25 (frame .width) (a .profile) ≡ Fine) where
     -- left to the grounds from 16 on
     left : (f : Finding) → (earlyGrounds frame v (a .symbol) else lateGrounds frame (v .state) a) ≡ f → answered frame (v .state) f ≡ admission d s v a
     unfolding admission
-    left f e = ap (answered frame (v .state)) (sym e ∙ in-stages frame v a) ∙ sym (ap (λ (x : Finding). answered frame (v .state) (x else receiveGrounds frame v a)) fine)
+    left f e = ap (answered frame (v .state)) (sym e ∙ in-stages frame v a listed) ∙ sym (ap (λ (x : Finding). answered frame (v .state) (x else receiveGrounds frame v a)) fine)
 
     -- refused by an early one
     pub bad-early : (g place : ℕ) → Ground g place ≡ earlyGrounds frame v (a .symbol) → Refused g place ≡ admission d s v a
@@ -84,16 +98,18 @@ module _ (d : Device) (s : List ℕ) (v : Receiver) (a : Arrival) where
     told = answered-admitted frame (v .state) m n nd _ e
 
     -- no ground refuses
-    pub none-refuses : received frame v a ≡ hearStep d s v a
+    pub none-refuses : received frame v (arriving [] (a .symbol) (a .buffer)) ≡ hearStep d s v a
     unfolding step
-    none-refuses = found Fine (told .0)
+    none-refuses = unprofiled frame v a ∙ found Fine (told .0)
 
     -- what the step relies on
-    pub admitted : frame .depth ≤ phases → ReceiveInOrder frame v a m n nd
-    unfolding frameOf cells
+    pub admitted : frame .depth ≤ phases → ReceiveInOrder frame v (arriving [] (a .symbol) (a .buffer)) m n nd
+    unfolding frameOf cells receiveGrounds
     admitted deep =
         let fine : Fine ≡ (grounds1to15 d s else receiveGrounds frame v a) = sym (told .0) in
-        let staged : Fine ≡ (earlyGrounds frame v (a .symbol) else lateGrounds frame (v .state) a) = fine-last (grounds1to15 d s) _ fine ∙ sym (in-stages frame v a) in
+        let given : Fine ≡ receiveGrounds frame v a = fine-last (grounds1to15 d s) _ fine in
+        let listed : ground25 (frame .width) (a .profile) ≡ Fine = sym (fine-first (ground25 (frame .width) (a .profile)) _ given) in
+        let staged : Fine ≡ (earlyGrounds frame v (a .symbol) else lateGrounds frame (v .state) a) = given ∙ sym (in-stages frame v a listed) in
         let early = fine-first _ (lateGrounds frame (v .state) a) staged in
         let lent = early-lent frame v (a .symbol) early in
         let em = told .1 in

@@ -19,6 +19,7 @@ use Rattle.rules.specs.declared.ReceiverState.{ReceiverState}
 use Rattle.rules.specs.Device.{phases}
 use Rattle.rules.specs.Grounds.{_else_, ground?}
 use Rattle.rules.specs.Frame.{Frame, cells, dataCount}
+use Rattle.rules.specs.Loads.{ground25}
 use Rattle.rules.specs.Store.{receiverPlaces}
 use Rattle.rules.specs.Steps.{ground16, shortStore, ground17}
 use Rattle.rules.specs.Receive.{Receiver, Arrival, warming, outPhase, outCount, receiverGround16, shortBuffer, receiverGround17, wrongCell, ground20, receiveGrounds}
@@ -126,13 +127,13 @@ module _ (F : Frame) (v : Receiver) (y : List ℕ) where
 module _ (F : Frame) (v : ReceiverState) (a : Arrival) where
   -- the late grounds as a function of the test of the data buffer
   buffered : Bool → Finding
-  buffered t = ground? 17 (when t 0) else ground20 F (v .phase) (a .symbol)
+  buffered t = ground? 17 (when t 0) else ground20 F (a .profile) (v .phase) (a .symbol)
 
   pub bad-buffer : shortBuffer F v (a .buffer) ≡ true → Ground 17 0 ≡ lateGrounds F v a
   unfolding lateGrounds buffered
   bad-buffer h = sym (ap buffered h)
 
-  pub good-buffer : shortBuffer F v (a .buffer) ≡ false → (o : Option ℕ) → o ≡ lowest (wrongCell F (v .phase) (a .symbol)) (F .width) → ground? 20 o ≡ lateGrounds F v a
+  pub good-buffer : shortBuffer F v (a .buffer) ≡ false → (o : Option ℕ) → o ≡ lowest (wrongCell F (a .profile) (v .phase) (a .symbol)) (F .width) → ground? 20 o ≡ lateGrounds F v a
   unfolding lateGrounds buffered ground20
   good-buffer h o e = ap (ground? 20) e ∙ sym (ap buffered h)
 
@@ -141,16 +142,17 @@ module _ (F : Frame) (v : ReceiverState) (a : Arrival) where
   unfolding lateGrounds shortBuffer warming
   late-room e h =
       ltb-false (length (a .buffer)) (outCount F v)
-      (ap (λ (t : Bool). not t && ltb (length (a .buffer)) (outCount F v)) (sym (le-ltb (v .heard) (F .depth - 1) h)) ∙ fine-test 17 _ (fine-first _ (ground20 F (v .phase) (a .symbol)) e))
+      (ap (λ (t : Bool). not t && ltb (length (a .buffer)) (outCount F v)) (sym (le-ltb (v .heard) (F .depth - 1) h)) ∙ fine-test 17 _ (fine-first _ (ground20 F (a .profile) (v .phase) (a .symbol)) e))
 
 -- ---- both
 
 module _ (F : Frame) (v : Receiver) (a : Arrival) where
-  pub in-stages : (earlyGrounds F v (a .symbol) else lateGrounds F (v .state) a) ≡ receiveGrounds F v a
+  pub in-stages : ground25 (F .width) (a .profile) ≡ Fine → (earlyGrounds F v (a .symbol) else lateGrounds F (v .state) a) ≡ receiveGrounds F v a
   unfolding earlyGrounds lateGrounds receiveGrounds ground17 receiverGround17
-  in-stages =
+  in-stages listed =
       let short = shortStore (receiverPlaces F) (v .store) || not (eqb (length (a .symbol)) (F .width)) in
       let buffer = shortBuffer F (v .state) (a .buffer) in
-      let last = ground20 F (v .state .phase) (a .symbol) in
+      let last = ground20 F (a .profile) (v .state .phase) (a .symbol) in
       else-assoc (receiverGround16 F (v .state)) (ground? 17 (when short 0)) (ground? 17 (when buffer 0) else last)
       ∙ ap (λ (f : Finding). receiverGround16 F (v .state) else f) (sym (else-assoc (ground? 17 (when short 0)) (ground? 17 (when buffer 0)) last) ∙ ap (λ (f : Finding). f else last) (parts 17 short buffer))
+      ∙ sym (ap (λ (f : Finding). f else receiverGround16 F (v .state) else receiverGround17 F v a else last) listed)

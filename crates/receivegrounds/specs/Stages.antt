@@ -1,4 +1,4 @@
--- The grounds of a receive step by stages, and what is answered to them. Assumes nothing.
+-- The grounds of a receive step by stages, once 25 is passed, and what is answered to them. Assumes nothing.
 use Prim.Native.Nat.{ℕ}
 use mathlib.Core.List.{List}
 use Rattle.counting.specs.Search.{when}
@@ -24,7 +24,7 @@ module _ (F : Frame) where
 
   -- the late ones: 17 of the data buffer, and 20
   unfoldable pub lateGrounds : ReceiverState → Arrival → Finding
-  lateGrounds v a = ground? 17 (when (shortBuffer F v (a .buffer)) 0) else ground20 F (v .phase) (a .symbol)
+  lateGrounds v a = ground? 17 (when (shortBuffer F v (a .buffer)) 0) else ground20 F (a .profile) (v .phase) (a .symbol)
 
   -- the first of the early ones, or N_D of the input symbol that is handed out
   unfoldable pub earlyAnswer : Receiver → List ℕ → CountAnswer

@@ -1,14 +1,16 @@
-// Whether a receive step is admitted: its grounds in order, 1 to 17 and 20, and what the step makes of the plan where none holds. The
+// Whether a receive step is admitted: its grounds in order, 1 to 15, 25, 16, 17 and 20, and what the step makes of the plan where none holds. The
 // receivers over cells and over two-byte cells share it. specs/Stages has the grounds by stages, specs/InOrder what is known where none holds.
 ghost use mathlib.Core.Path.{_≡_};
 ghost use mathlib.Core.List.{List};
 ghost use Prim.Native.Nat.{ℕ, _≤_, _<_};
 ghost use lib.ListN.{length, take};
 ghost use Rattle.rules.specs.declared.CountAnswer.the-variants.{Count};
+ghost use Rattle.rules.specs.declared.Finding.the-variants.{Fine};
 ghost use Rattle.rules.specs.Device.{phases};
 ghost use Rattle.rules.specs.Fits.{Fits};
 ghost use Rattle.rules.specs.Plan.{planOf};
 ghost use Rattle.rules.specs.Frame.{frameOf};
+ghost use Rattle.rules.specs.Loads.{ground25};
 ghost use Rattle.rules.specs.Receive.{outPhase, outCount};
 ghost use Rattle.steps.specs.Ready.{Ready};
 ghost use Rattle.steps.specs.Begins.{Begins};
@@ -18,6 +20,7 @@ ghost use Rattle.receivegrounds.specs.InOrder.{Prepared};
 use counting::Found;
 use rules::CountAnswer;
 use rules::Device;
+use rules::Finding;
 use rules::ReceiverState;
 use rules::Verdict;
 
@@ -77,19 +80,20 @@ fn last_grounds(
     m: usize,
     n: usize,
     nd: u32,
+    profile: &[u8],
     state: ReceiverState,
     width: usize,
     room: usize,
     symbol: &[u16],
 ) -> Admission
-    requires { ⌜ Ready d (now plan) n (now marks) × (m ≡ planOf (now plan) .depth) × (nd ≡ outCount (frameOf d (planOf (now plan))) state) × (state .phase < phases) × (width ≡ d .subcarriers) × (width ≤ length (now symbol)) ⌝ }
-    ensures { λ r. ⌜ ((b : List ℕ) → length b ≡ room → r ≡ answered (frameOf d (planOf (now (plan .entry)))) state (lateGrounds (frameOf d (planOf (now (plan .entry)))) state (record { symbol = take width (now (symbol .entry)); buffer = b }))) ⌝ }
+    requires { ⌜ Ready d (now plan) n (now marks) × (m ≡ planOf (now plan) .depth) × (nd ≡ outCount (frameOf d (planOf (now plan))) state) × (ground25 (d .subcarriers) (now profile) ≡ Fine) × (state .phase < phases) × (width ≡ d .subcarriers) × (width ≤ length (now symbol)) ⌝ }
+    ensures { λ r. ⌜ ((b : List ℕ) → length b ≡ room → r ≡ answered (frameOf d (planOf (now (plan .entry)))) state (lateGrounds (frameOf d (planOf (now (plan .entry)))) state (record { profile = now (profile .entry); symbol = take width (now (symbol .entry)); buffer = b }))) ⌝ }
 {
     if receiving::lacks(state.heard, m, nd as usize, room) {
         return Admission::Refused(17, 0);
     }
     let j = state.phase as usize;
-    if let Found::At(k) = arrivals::wrong_cell(d, plan, marks, j, &symbol[..width]) {
+    if let Found::At(k) = arrivals::wrong_cell(d, plan, marks, profile, j, &symbol[..width]) {
         return Admission::Refused(20, k);
     }
     Admission::Admitted(m, n, nd)
@@ -101,6 +105,7 @@ fn last_grounds(
 pub fn admit(
     d: Device,
     plan: &[u8],
+    profile: &[u8],
     state: ReceiverState,
     places: usize,
     width: usize,
@@ -110,13 +115,16 @@ pub fn admit(
     flag: &mut [u8],
 ) -> Admission
     requires { ⌜ Fits d × (d .depthMax ≤ phases) × (width ≡ d .subcarriers → width ≤ length (now symbol)) × (d .subcarriers ≤ length (now kc)) × (d .subcarriers ≤ length (now flag)) ⌝ }
-    ensures answer { λ r. ⌜ ((s y b : List ℕ) → length s ≡ places → Begins (now (symbol .entry)) width y → length b ≡ room → r ≡ admission d (now (plan .entry)) (record { state = state; store = s }) (record { symbol = y; buffer = b })) ⌝ }
+    ensures answer { λ r. ⌜ ((s y b : List ℕ) → length s ≡ places → Begins (now (symbol .entry)) width y → length b ≡ room → r ≡ admission d (now (plan .entry)) (record { state = state; store = s }) (record { profile = now (profile .entry); symbol = y; buffer = b })) ⌝ }
     ensures made { λ r. ⌜ ((m n nd : ℕ) → r ≡ Admitted m n nd → Prepared (frameOf d (planOf (now (plan .entry)))) (outPhase (frameOf d (planOf (now (plan .entry)))) (state .phase)) (now (kc .exit)) (now (flag .exit))) ⌝ }
 {
     let mut marks = [0u16; 4096];
     match verdicts::study(d, plan, &mut marks) {
         Verdict::Refused(g, place) => Admission::Refused(g, place),
         Verdict::Accepted(n) => {
+            if let Finding::Ground(g, place) = profiles::profile_ground(d, profile) {
+                return Admission::Refused(g, place);
+            }
             let ni = n as usize;
             let m = records::number_at(plan, 6);
             match ready(
@@ -138,6 +146,7 @@ pub fn admit(
                     m,
                     ni,
                     nd,
+                    profile,
                     state,
                     width,
                     room,

@@ -1,6 +1,7 @@
 // The receiver: a receive step. The entry `receive` reads the plan bytes anew and asks nothing of its caller; what it refuses, it leaves as
 // it was.
 ghost use mathlib.Core.Path.{_≡_};
+ghost use mathlib.Core.List.{[]};
 ghost use Prim.Native.Nat.{_≤_, _<_};
 ghost use lib.ListN.{length};
 ghost use Rattle.rules.specs.Device.{khz50};
@@ -33,7 +34,7 @@ fn take_in(
     delay::gather(m, store, x);
 }
 
-// A step that no ground refuses, with nd data cells to hand out: kc are the subcarriers of the n cells, flag the flags of the placeholders
+// A step that no ground refuses, which reads no profile any more, with nd data cells to hand out: kc are the subcarriers of the n cells, flag the flags of the placeholders
 // of the input symbol that is handed out.
 fn hear(
     d: Device,
@@ -48,8 +49,8 @@ fn hear(
     store: &mut [u16],
     buffer: &mut [u16],
 ) -> ReceiveAnswer
-    requires { ⌜ Fits d × ReceiveInOrder (frameOf d (planOf (now plan))) (record { state = state; store = now store }) (record { symbol = now symbol; buffer = now buffer }) m n nd × Prepared (frameOf d (planOf (now plan))) (outPhase (frameOf d (planOf (now plan))) (state .phase)) (now kc) (now flag) ⌝ }
-    ensures { λ r. ⌜ hears r (now (store .exit)) (now (buffer .exit)) ≡ received (frameOf d (planOf (now (plan .entry)))) (record { state = state; store = now (store .entry) }) (record { symbol = now (symbol .entry); buffer = now (buffer .entry) }) ⌝ }
+    requires { ⌜ Fits d × ReceiveInOrder (frameOf d (planOf (now plan))) (record { state = state; store = now store }) (record { profile = []; symbol = now symbol; buffer = now buffer }) m n nd × Prepared (frameOf d (planOf (now plan))) (outPhase (frameOf d (planOf (now plan))) (state .phase)) (now kc) (now flag) ⌝ }
+    ensures { λ r. ⌜ hears r (now (store .exit)) (now (buffer .exit)) ≡ received (frameOf d (planOf (now (plan .entry)))) (record { state = state; store = now (store .entry) }) (record { profile = []; symbol = now (symbol .entry); buffer = now (buffer .entry) }) ⌝ }
 {
     let mut x = [0u16; 4096];
     take_in(d, plan, m, kc, symbol, store, &mut x[..n]);
@@ -61,15 +62,17 @@ fn hear(
     ReceiveAnswer::Data(next, nd)
 }
 
-// A receive step: the store takes in the arriving cells, and the data of the input symbol M - 1 steps back is handed out.
+// A receive step under a load profile: the store takes in the arriving cells, and the data of the input symbol M - 1 steps back is handed
+// out.
 pub fn receive(
     plan: &[u8],
+    profile: &[u8],
     state: ReceiverState,
     store: &mut [u16],
     symbol: &[u16],
     buffer: &mut [u16],
 ) -> ReceiveAnswer
-    ensures { λ r. ⌜ hears r (now (store .exit)) (now (buffer .exit)) ≡ receiveStep khz50 (now (plan .entry)) state (now (store .entry)) (now (symbol .entry)) (now (buffer .entry)) ⌝ }
+    ensures { λ r. ⌜ hears r (now (store .exit)) (now (buffer .exit)) ≡ receiveStep khz50 (now (plan .entry)) (now (profile .entry)) state (now (store .entry)) (now (symbol .entry)) (now (buffer .entry)) ⌝ }
 {
     let d = rules::khz50_device();
     let mut kc = [0u16; 4096];
@@ -77,6 +80,7 @@ pub fn receive(
     match receivegrounds::admit(
         d,
         plan,
+        profile,
         state,
         store.len(),
         symbol.len(),

@@ -1,7 +1,7 @@
 -- What a receive step that no ground refuses answers and leaves, return by return: one law for each. Assumes nothing.
-use mathlib.Core.Path.{_≡_, ap, _∙_}
+use mathlib.Core.Path.{_≡_, refl, ap, _∙_}
 use mathlib.Core.Bool.{true, false}
-use mathlib.Core.List.{List}
+use mathlib.Core.List.{List, []}
 use Prim.Native.Nat.{ℕ, _+_, _-_, _%_}
 use lib.Dec.{ltb}
 use lib.Seq.{sets}
@@ -18,8 +18,13 @@ use Rattle.fill.proofs.Inputs.{taken}
 abbrev pub at : ReceiverState → List ℕ → Receiver
 at v s = record { state = v; store = s }
 
-abbrev pub arriving : List ℕ → List ℕ → Arrival
-arriving y b = record { symbol = y; buffer = b }
+abbrev pub arriving : List ℕ → List ℕ → List ℕ → Arrival
+arriving w y b = record { profile = w; symbol = y; buffer = b }
+
+-- what a step that no ground refuses leaves hangs on no profile
+pub unprofiled : (F : Frame) (v : Receiver) (a : Arrival) → received F v (arriving [] (a .symbol) (a .buffer)) ≡ received F v a
+unfolding received
+unprofiled F v a = refl
 
 -- ---- warming, and the state of the next step, for depth m
 

@@ -14,13 +14,7 @@ use Rattle.rules.specs.declared.Finding.{Finding}
 use Rattle.rules.specs.declared.Finding.the-variants.{Fine, Ground}
 use Rattle.rules.specs.Plan.{Entry, leads, isPlc, isRange, isPilot}
 use Rattle.rules.specs.Grounds.{_else_, ground?, badLength, badForm, badNext, badNumbers, pilotsMax, recordGrounds}
-
-pub not-fine : {n place : ℕ} → Ground n place ≡ Fine → ⊥
-not-fine e = let z : _≡_ {A = ℕ} 0 1 = cc in omega arith
-
-pub both-fine : (a b : Finding) → (a else b) ≡ Fine → (a ≡ Fine) × (b ≡ Fine)
-both-fine Fine b e = (refl, e)
-both-fine (Ground n place) b e = absurd (not-fine e)
+use Rattle.rules.proofs.Findings.{not-fine}
 
 -- none of three
 none-of : (a b c : Bool) → (a || b || c) ≡ false → (a ≡ false) × (b ≡ false) × (c ≡ false)

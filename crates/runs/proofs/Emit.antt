@@ -1,6 +1,6 @@
 -- The closed form of a run: the symbols sent from a fresh start are a function of the frame, the starting phase and the input alone. Assumes nothing.
 use Prim.Native.Nat.{ℕ, zero, suc, _+_, _-_, _%_, _≤_, _<_}
-use mathlib.Core.Path.{_≡_, refl, sym, ap, _∙_}
+use mathlib.Core.Path.{_≡_, refl, sym, ap, _∙_, subst}
 use mathlib.Core.Logic.{by-cases}
 use mathlib.Core.List.{List, [], _∷_, _++_, map}
 use native.Mathlib.Nat.{mod-lt, mod-eq-of-lt, mod-add-mod, add-mod-right, le-of-suc-le-suc, not-suc-le-zero, add-zero}
@@ -11,16 +11,18 @@ use lib.Seq.{length-sets, ext-getD, getD-append-add}
 use Rattle.counting.specs.Search.{tabulate}
 use Rattle.counting.proofs.Lists.{length-tabulate, getD-tabulate, getD-sets-0, getD-map-in}
 use Rattle.rules.specs.declared.Finding.the-variants.{Fine}
-use Rattle.rules.specs.Frame.{Frame, cells, delay, nextPhase, phaseBack, Given, flush, inputCells, lineSymbol}
+use Rattle.rules.specs.Frame.{Frame, cells, delay, nextPhase, phaseBack, Given, flush, symbol, inputCells, lineSymbol}
 use Rattle.rules.specs.Places.{joined, placesBefore}
 use Rattle.rules.specs.Store.{emitterPlaces, freshPlaces, freshStore}
-use Rattle.rules.specs.Steps.{Emitter, Send, givenGrounds, sendGrounds, nextState, sentStore, sentSymbol}
+use Rattle.rules.specs.Loads.{limitAt}
+use Rattle.rules.specs.Steps.{Emitter, Send, profileGround, givenGrounds, sendGrounds, nextState, sentStore, sentSymbol}
+use Rattle.rules.proofs.Findings.{by-finding}
 use Rattle.frame.specs.Counted.{phaseOf}
 use Rattle.frame.proofs.Cells.{Sound}
 use Rattle.places.specs.Sent.{placesSent}
 use Rattle.places.proofs.Kept.{start-grow, joined-length, joined-at, early, late, length-placesSent, length-cells}
-use Rattle.runs.specs.Run.{acceptedSteps, input, sent}
-use Rattle.runs.proofs.Steps.{frameEntries, by-finding, fine-given, next, input-sent, input-ground, sent-symbol, sent-ground, FreshIn, freshEmitter}
+use Rattle.runs.specs.Run.{acceptedSteps, UnderProfile, input, sent}
+use Rattle.runs.proofs.Steps.{frameEntries, Within, top, given-within, within-top, fine-given, next, input-sent, input-ground, sent-symbol, sent-ground, FreshIn, freshEmitter}
 
 -- ---- a run is that of its accepted steps
 
@@ -35,13 +37,13 @@ length-inputs F j [] = refl
 length-inputs F j (g ∷ gs) = ap suc (length-inputs F (nextPhase F j) gs)
 
 -- the phase of a symbol, from the phase after the start's
-phase-next : (F : Frame) (j i : ℕ) → phaseOf F (nextPhase F j) i ≡ phaseOf F j (suc i)
+pub phase-next : (F : Frame) (j i : ℕ) → phaseOf F (nextPhase F j) i ≡ phaseOf F j (suc i)
 phase-next F j i = mod-add-mod (j + 1) (F .phases) i ∙ ap (λ (x : ℕ). x % F .phases) (let z : j + 1 + i ≡ j + suc i = omega arith in z)
 
-phase-first : (F : Frame) (j : ℕ) → j < F .phases → phaseOf F j 0 ≡ j
+pub phase-first : (F : Frame) (j : ℕ) → j < F .phases → phaseOf F j 0 ≡ j
 phase-first F j h = rw (add-zero, mod-eq-of-lt h) refl
 
-next-in : (F : Frame) (j : ℕ) → j < F .phases → nextPhase F j < F .phases
+pub next-in : (F : Frame) (j : ℕ) → j < F .phases → nextPhase F j < F .phases
 next-in F j h = mod-lt (j + 1) (omega arith)
 
 inputs-at : (F : Frame) (j : ℕ) (gs : List Given) → j < F .phases → (i : ℕ) → i < length gs → getD (inputs F j gs) i [] ≡ inputCells F (phaseOf F j i) (getD gs i flush)
@@ -74,23 +76,46 @@ length-sent F e steps =
 
 -- ---- what the accepted steps were given
 
--- no ground refuses any of gs at its phase, from phase j on
-abbrev pub AllFine : Frame → ℕ → List Given → Type 0
-AllFine F j gs = (i : ℕ) → i < length gs → givenGrounds F (phaseOf F j i) (getD gs i flush) ≡ Fine
+-- all of gs is within limits, from phase j on
+abbrev pub AllWithin : Frame → (ℕ → ℕ) → ℕ → List Given → Type 0
+AllWithin F limit j gs = (i : ℕ) → i < length gs → Within F limit (phaseOf F j i) (getD gs i flush)
 
-fine-cons : (F : Frame) (j : ℕ) (g : Given) (gs : List Given) → j < F .phases → givenGrounds F j g ≡ Fine → AllFine F (nextPhase F j) gs → AllFine F j (g ∷ gs)
-fine-cons F j g gs hj h hs zero l = ap (λ (x : ℕ). givenGrounds F x g) (phase-first F j hj) ∙ h
-fine-cons F j g gs hj h hs (suc i) l = ap (λ (x : ℕ). givenGrounds F x (getD gs i flush)) (sym (phase-next F j i)) ∙ hs i (le-of-suc-le-suc l)
+within-cons : (F : Frame) (limit : ℕ → ℕ) (j : ℕ) (g : Given) (gs : List Given) → j < F .phases → Within F limit j g → AllWithin F limit (nextPhase F j) gs → AllWithin F limit j (g ∷ gs)
+within-cons F limit j g gs hj h hs zero l = subst (λ (x : ℕ). Within F limit x g) (sym (phase-first F j hj)) h
+within-cons F limit j g gs hj h hs (suc i) l = subst (λ (x : ℕ). Within F limit x (getD gs i flush)) (phase-next F j i) (hs i (le-of-suc-le-suc l))
 
-input-all : (F : Frame) (e : Emitter) (steps : List Send) → e .state .phase < F .phases → AllFine F (e .state .phase) (input (frameEntries F) e steps)
+-- what each step of a list is given is within limits wherever no ground refuses it
+abbrev pub Limited : Frame → (ℕ → ℕ) → List Send → Type 0
+Limited F limit [] = Unit {0}
+Limited F limit (a ∷ rest) =
+    ((j : ℕ) → profileGround F (a .profile) (a .given) ≡ Fine → givenGrounds F (a .profile) j (a .given) ≡ Fine → Within F limit j (a .given)) × Limited F limit rest
+
+-- of all steps: 16383
+pub limited-top : (F : Frame) (steps : List Send) → Limited F top steps
+limited-top F [] = tt
+limited-top F (a ∷ rest) = (λ j p g. within-top F (a .profile) j (a .given) p (given-within F (a .profile) j (a .given) g), limited-top F rest)
+
+-- of steps under one profile: the limits of its loads
+profile-within : (F : Frame) (w u : List ℕ) (j : ℕ) (g : Given) → ((ds : List ℕ) → g ≡ symbol ds → u ≡ w) → givenGrounds F u j g ≡ Fine → Within F (limitAt w) j g
+profile-within F w u j flush is h = tt
+profile-within F w u j (symbol ds) is h = given-within F w j (symbol ds) (subst (λ (x : List ℕ). givenGrounds F x j (symbol ds) ≡ Fine) (is ds refl) h)
+
+pub limited-under : (F : Frame) (w : List ℕ) (steps : List Send) → UnderProfile w steps → Limited F (limitAt w) steps
+limited-under F w [] u = tt
+limited-under F w (a ∷ rest) u = (λ j p g. profile-within F w (a .profile) j (a .given) (u .0) g, limited-under F w rest (u .1))
+
+input-all : (F : Frame) (limit : ℕ → ℕ) (e : Emitter) (steps : List Send) → Limited F limit steps → e .state .phase < F .phases
+    → AllWithin F limit (e .state .phase) (input (frameEntries F) e steps)
 unfolding input acceptedSteps next nextState
-input-all F e [] hj = λ i h. absurd (not-suc-le-zero h)
-input-all F e (a ∷ rest) hj =
+input-all F limit e [] lim hj = λ i h. absurd (not-suc-le-zero h)
+input-all F limit e (a ∷ rest) lim hj =
     by-finding (sendGrounds F e a)
-    (λ h. rw (input-sent F e a rest h)
-    (fine-cons F (e .state .phase) (a .given) (input (frameEntries F) (next F e (a .given)) rest) hj (fine-given F e a h)
-    (input-all F (next F e (a .given)) rest (next-in F (e .state .phase) hj))))
-    (λ n place h. rw (input-ground F e a rest n place h) (input-all F e rest hj))
+    (λ h.
+    let f = fine-given F e a h in
+    rw (input-sent F e a rest h)
+    (within-cons F limit (e .state .phase) (a .given) (input (frameEntries F) (next F e (a .given)) rest) hj (lim .0 (e .state .phase) (f .0) (f .1))
+    (input-all F limit (next F e (a .given)) rest (lim .1) (next-in F (e .state .phase) hj))))
+    (λ n place h. rw (input-ground F e a rest n place h) (input-all F limit e rest (lim .1) hj))
 
 -- ---- the closed form
 
@@ -187,11 +212,14 @@ module _ (F : Frame) (ok : Sound F) (j : ℕ) (hj : j < F .phases) (lent : List 
   unfolding freshEmitter out cellsSent
   fresh-closed steps = sent-cells F (freshEmitter F j lent) steps ∙ out-sent (input (frameEntries F) (freshEmitter F j lent) steps)
 
--- a run from a fresh start: what it sends, and that no ground refuses what it was given
+-- a run from a fresh start: what it sends, and that what it was given is within limits
 module _ (F : Frame) (j : ℕ) (e : Emitter) (fresh : FreshIn F j e) (steps : List Send) where
   pub sent-closed : Sound F → sent (frameEntries F) e steps ≡ closedSent F j (input (frameEntries F) e steps)
   sent-closed ok = rw (fresh .is-fresh) (fresh-closed F ok j (fresh .phase-in) (fresh .lent) (fresh .fits) steps)
 
-  pub input-fine : AllFine F j (input (frameEntries F) e steps)
+  pub input-within : (limit : ℕ → ℕ) → Limited F limit steps → AllWithin F limit j (input (frameEntries F) e steps)
   unfolding freshEmitter
-  input-fine = rw (fresh .is-fresh) (input-all F (freshEmitter F j (fresh .lent)) steps (fresh .phase-in))
+  input-within limit lim = rw (fresh .is-fresh) (input-all F limit (freshEmitter F j (fresh .lent)) steps lim (fresh .phase-in))
+
+  pub input-top : AllWithin F top j (input (frameEntries F) e steps)
+  input-top = input-within top (limited-top F steps)

@@ -16,9 +16,10 @@ use Rattle.rules.specs.declared.Finding.the-variants.{Fine}
 use Rattle.rules.specs.declared.ReceiverState.{ReceiverState}
 use Rattle.rules.specs.Grounds.{_else_, ground?}
 use Rattle.rules.specs.Frame.{Frame, delay, inputCells, lineCells}
+use Rattle.rules.specs.Loads.{ground25}
 use Rattle.rules.specs.Places.{receiverDelay}
 use Rattle.rules.specs.Store.{emitterPlaces, receiverPlaces, freshStore, fillerStore}
-use Rattle.rules.specs.Steps.{Emitter, Send, Sending, ground16, shortStore, ground17, givenGrounds, sendGrounds, nextState, sentStore, frameStep}
+use Rattle.rules.specs.Steps.{Emitter, Send, Sending, ground16, shortStore, ground17, profileGround, givenGrounds, sendGrounds, nextState, sentStore, frameStep}
 use Rattle.rules.specs.Receive.{Receiver, Arrival, Receiving, warming, shortBuffer, receiverGround16, receiverGround17, ground20, receiveGrounds, heardState, heardStore, frameReceive}
 use Rattle.frame.specs.Counted.{phaseOf}
 use Rattle.frame.proofs.Cells.{Sound}
@@ -33,7 +34,10 @@ use Rattle.runs.proofs.Numbered.{Numbered, numbered-fresh, numbered-nex
 
 -- the grounds of a step n accepted steps after the starting phase j, in a store that is long enough
 unfoldable pub sendGroundsAt : Frame → ℕ → ℕ → Send → Finding
-sendGroundsAt F j n a = ground? 17 (when (not (eqb (length (a .room)) (F .width))) 0) else givenGrounds F (phaseOf F j n) (a .given)
+sendGroundsAt F j n a =
+    profileGround F (a .profile) (a .given)
+    else ground? 17 (when (not (eqb (length (a .room)) (F .width))) 0)
+    else givenGrounds F (a .profile) (phaseOf F j n) (a .given)
 
 -- an emitter then
 abbrev Carries : Frame → ℕ → ℕ → Emitter → Type 0
@@ -55,9 +59,10 @@ module _ (F : Frame) (j : ℕ) (hj : j < F .phases) where
   carries-grounds n e a t =
       let hp : e .state .phase < F .phases = rw (t .phase-is) (mod-lt (j + n) (omega (arith, hj))) in
       λ i.
-      ground? 16 (when (lt-leb (F .phases) (e .state .phase) hp i) 0)
+      profileGround F (a .profile) (a .given)
+      else ground? 16 (when (lt-leb (F .phases) (e .state .phase) hp i) 0)
       else ground? 17 (when (le-ltb (length (e .store)) (emitterPlaces F) (t .fits) i || not (eqb (length (a .room)) (F .width))) 0)
-      else givenGrounds F (t .phase-is i) (a .given)
+      else givenGrounds F (a .profile) (t .phase-is i) (a .given)
 
   emitterSteps : NumberedSteps Emitter Send Sending
   emitterSteps = record {
@@ -93,7 +98,9 @@ receiverState F j n = record { phase = phaseOf F j n; heard = min n (F .depth - 
 -- the grounds of a step then, in a store that is long enough
 unfoldable pub receiveGroundsAt : Frame → ℕ → ℕ → Arrival → Finding
 receiveGroundsAt F j n a =
-    ground? 17 (when (not (eqb (length (a .symbol)) (F .width)) || shortBuffer F (receiverState F j n) (a .buffer)) 0) else ground20 F (phaseOf F j n) (a .symbol)
+    ground25 (F .width) (a .profile)
+    else ground? 17 (when (not (eqb (length (a .symbol)) (F .width)) || shortBuffer F (receiverState F j n) (a .buffer)) 0)
+    else ground20 F (a .profile) (phaseOf F j n) (a .symbol)
 
 -- a receiver then
 record Tracks (F : Frame) (j n : ℕ) (v : Receiver) : Type 0 where
@@ -124,10 +131,11 @@ module _ (F : Frame) (pos : 0 < F .depth) (j : ℕ) (hj : j < F .phases) where
       let hp : v .state .phase < F .phases = rw (c .phase-is) (mod-lt (j + n) (omega (arith, hj))) in
       let hh : v .state .heard < F .depth = omega (arith, t .heard) in
       λ i.
-      ground? 16 (when (lt-leb (F .phases) (v .state .phase) hp i || lt-leb (F .depth) (v .state .heard) hh i) 0)
+      ground25 (F .width) (a .profile)
+      else ground? 16 (when (lt-leb (F .phases) (v .state .phase) hp i || lt-leb (F .depth) (v .state .heard) hh i) 0)
       else ground? 17
       (when (le-ltb (length (v .store)) (receiverPlaces F) (c .fits) i || not (eqb (length (a .symbol)) (F .width)) || shortBuffer F (record { phase = c .phase-is i; heard = t .heard i }) (a .buffer)) 0)
-      else ground20 F (c .phase-is i) (a .symbol)
+      else ground20 F (a .profile) (c .phase-is i) (a .symbol)
 
   receiverSteps : NumberedSteps Receiver Arrival Receiving
   receiverSteps = record {

@@ -6,11 +6,11 @@ use mathlib.Core.List.{List, _∷_}
 use native.Mathlib.Omega.{arith}
 use lib.Dec.{ltb, eqb}
 use lib.ListN.{length, take, length-map}
-use lib.Seq.{sets, length-sets, ext-getD, length-take-le, getD-take}
+use lib.Seq.{sets}
 use borrow.Author.Tests.{ltb-false}
 use Rattle.counting.specs.Search.{pick}
 use Rattle.counting.proofs.Bools.{neither, by-test}
-use Rattle.counting.proofs.Lists.{getD-sets-0}
+use Rattle.counting.proofs.Lists.{take-sets}
 use Rattle.rules.specs.declared.Finding.{Finding}
 use Rattle.rules.specs.declared.Finding.the-variants.{Fine, Ground}
 use Rattle.rules.specs.declared.ReceiverState.{ReceiverState}
@@ -20,18 +20,11 @@ use Rattle.rules.specs.Store.{receiverPlaces, fillerStore}
 use Rattle.rules.specs.Steps.{shortStore}
 use Rattle.rules.specs.Receive as receive
 use Rattle.rules.specs.Receive.{Receiver, Arrival, Receiving, Listening, listens, turnedAway, outCount, shortBuffer, receiverGround16, receiverGround17, ground20, receiveGrounds, heardState, heardStore, received, frameReceive, frameListen}
-use Rattle.records.proofs.RecordLaws.{both-fine}
-use Rattle.facts.proofs.Accepted.{when-fine}
+use Rattle.rules.proofs.Findings.{both-fine, when-fine}
+use Rattle.rules.specs.Loads.{ground25}
 use Rattle.frame.proofs.Cells.{length-data}
 use Rattle.runs.specs.Run.{acceptedSteps, isReceived, receiverLeft, Outcome, warming, handed, outcomeOf, receivings, heard, outcomes, isListening, FreshReceiver}
 use Rattle.runs.proofs.Steps.{frameEntries, not-refused}
-
--- what was stored from the start on is what stands there
-take-sets : (b xs : List ℕ) (n : ℕ) → length xs ≡ n → n ≤ length b → take n (sets b 0 xs) ≡ xs
-take-sets b xs n e h =
-    let size : length (take n (sets b 0 xs)) ≡ n = length-take-le n (sets b 0 xs) (rw length-sets h) in
-    ext-getD 0 (take n (sets b 0 xs)) xs (size ∙ sym e)
-    (λ i l. getD-take n (sets b 0 xs) i 0 (rw size at l) ∙ getD-sets-0 b xs 0 i (omega arith) (omega arith))
 
 -- ---- one step
 
@@ -66,8 +59,8 @@ module _ (F : Frame) (v : Receiver) (a : Arrival) where
   buffer-fits : receiveGrounds F v a ≡ Fine → receive.warming F (v .state) ≡ false → outCount F (v .state) ≤ length (a .buffer)
   unfolding receiveGrounds receiverGround17 shortBuffer
   buffer-fits h q =
-      let rest = both-fine (receiverGround16 F (v .state)) _ h .1 in
-      let short = when-fine 17 0 _ (both-fine _ (ground20 F (v .state .phase) (a .symbol)) rest .0) in
+      let rest = both-fine (receiverGround16 F (v .state)) _ (both-fine (ground25 (F .width) (a .profile)) _ h .1) .1 in
+      let short = when-fine 17 0 _ (both-fine _ (ground20 F (a .profile) (v .state .phase) (a .symbol)) rest .0) in
       ltb-false _ _ (sym (ap (λ (b : Bool). not b && ltb (length (a .buffer)) (outCount F (v .state))) q) ∙ neither (shortStore (receiverPlaces F) (v .store) || not (eqb (length (a .symbol)) (F .width))) _ short .1)
 
   outcome-handed : receiveGrounds F v a ≡ Fine → outcomeOf (received F v a .answer) (received F v a .buffer) ≡ outcomeWith F (v .state) (receive.handed F v (a .symbol))

@@ -9,4 +9,6 @@ pub mod Fitting
 pub mod Unique
 pub mod Return
 pub mod Accepts
+pub mod Fills
+pub mod Streams
 pub mod Claims

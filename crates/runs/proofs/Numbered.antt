@@ -13,7 +13,7 @@ use Rattle.rules.specs.Places.{moved}
 use Rattle.places.proofs.Kept.{length-moved}
 use Rattle.frame.specs.Counted.{phaseOf}
 use Rattle.runs.specs.Run.{acceptedSteps, afterSteps}
-use Rattle.runs.proofs.Steps.{by-finding}
+use Rattle.rules.proofs.Findings.{by-finding}
 
 -- ---- phase and store
 

@@ -22,7 +22,8 @@ use Rattle.frame.specs.Counted.{phaseOf}
 use Rattle.frame.proofs.Cells.{Sound, line-cell}
 use Rattle.runs.specs.Run.{acceptedSteps, Outcome, warming, handed, heard, outcomes}
 use Rattle.runs.specs.Demand3.{sentNumber}
-use Rattle.runs.proofs.Steps.{frameEntries, by-finding}
+use Rattle.rules.proofs.Findings.{by-finding}
+use Rattle.runs.proofs.Steps.{frameEntries}
 use Rattle.runs.proofs.Hears.{nextHeard, outcomeWith, heard-fine, heard-ground, outcome-fine, outcome-ground, freshReceiver, ListensIn}
 use Rattle.runs.proofs.Emit.{delay-below}
 

@@ -23,8 +23,8 @@ use Rattle.frame.proofs.Cells.{Sound, data-cell, data-cell-held, data-cell-at, 
 use Rattle.roles.proofs.Testing.{role-is}
 use Rattle.runs.specs.Run.{input, sent}
 use Rattle.runs.specs.Demand3.{dataCell, sentNumber, Placed}
-use Rattle.runs.proofs.Steps.{frameEntries, given-length, FreshIn}
-use Rattle.runs.proofs.Emit.{givenBefore, closedCells, closedSent, given-late, delay-below, length-sent, sent-closed, input-fine}
+use Rattle.runs.proofs.Steps.{frameEntries, FreshIn}
+use Rattle.runs.proofs.Emit.{givenBefore, closedCells, closedSent, given-late, delay-below, length-sent, sent-closed, input-top}
 
 -- ---- the role of a place
 
@@ -93,7 +93,7 @@ module _ (F : Frame) (ok : Sound F) (j : ℕ) where
 
     symbol-length : (t : ℕ) (ds : List ℕ) → t < length (input (frameEntries F) e steps) → getD (input (frameEntries F) e steps) t flush ≡ symbol ds
         → length ds ≡ dataCount F (phaseOf F j t)
-    symbol-length t ds h is = given-length F (phaseOf F j t) ds (rw is at (input-fine F j e fresh steps t h))
+    symbol-length t ds h is = (rw is at (input-top F j e fresh steps t h)) .0
 
     number-stands : (t c : ℕ) (ds : List ℕ) → t < length (input (frameEntries F) e steps) → getD (input (frameEntries F) e steps) t flush ≡ symbol ds → c < length ds
         → sentNumber F t (dataCell F j t c) < length (sent (frameEntries F) e steps)

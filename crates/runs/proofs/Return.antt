@@ -17,16 +17,18 @@ use Rattle.rules.specs.declared.Finding.the-variants.{Fine}
 use Rattle.rules.specs.declared.ReceiverState.{ReceiverState}
 use Rattle.rules.specs.Grounds.{_else_, ground?}
 use Rattle.rules.specs.Frame.{Frame, cells, spot, dataCount, Given, flush, dataList, inputCells, dataOf, fitsRole}
+use Rattle.rules.specs.Loads.{ground25, limitAt}
 use Rattle.rules.specs.Steps.{Emitter, Send}
 use Rattle.rules.specs.Receive as receive
 use Rattle.rules.specs.Receive.{Receiver, Arrival, outPhase, outCount, shortBuffer, wrongCell, ground20, frameReceive}
 use Rattle.frame.specs.Counted.{phaseOf}
 use Rattle.frame.proofs.Cells.{Sound, data-back, length-line}
-use Rattle.runs.specs.Run.{input, sent, isReceived, Outcome, warming, handed, refused, heard, outcomes, receiverAfter}
-use Rattle.runs.specs.Demand3.{dataCells, sentNumber, Follows, Returned}
-use Rattle.runs.proofs.Steps.{frameEntries, list-length, FreshIn}
+use Rattle.runs.specs.Run.{UnderProfile, input, sent, isReceived, Outcome, warming, handed, refused, heard, outcomes, receiverAfter}
+use Rattle.runs.specs.Follow.{Follows}
+use Rattle.runs.specs.Demand3.{dataCells, sentNumber, Returned}
+use Rattle.runs.proofs.Steps.{frameEntries, top, list-length, FreshIn}
 use Rattle.runs.proofs.Hears.{fine-received, length-outcomes, ListensIn}
-use Rattle.runs.proofs.Emit.{closedCells, delay-below, length-sent, input-fine}
+use Rattle.runs.proofs.Emit.{closedCells, delay-below, length-sent, input-top}
 use Rattle.runs.proofs.Grounds.{receiverState, receiveGroundsAt, receive-grounds}
 use Rattle.runs.proofs.Outcomes.{outcomeAt, gatheredCells, closedOutcomes, outcomes-closed}
 use Rattle.runs.proofs.Places.{sent-at, cell-stands}
@@ -34,16 +36,17 @@ use Rattle.runs.proofs.Places.{sent-at, cell-stands}
 -- ---- one more step
 
 -- no ground refuses a step whose lengths and cells are all right
-no-ground : (F : Frame) (j n : ℕ) (a : Arrival) → length (a .symbol) ≡ F .width → shortBuffer F (receiverState F j n) (a .buffer) ≡ false
-    → ((k : ℕ) → k < F .width → wrongCell F (phaseOf F j n) (a .symbol) k ≡ false) → receiveGroundsAt F j n a ≡ Fine
+no-ground : (F : Frame) (j n : ℕ) (a : Arrival) → ground25 (F .width) (a .profile) ≡ Fine → length (a .symbol) ≡ F .width → shortBuffer F (receiverState F j n) (a .buffer) ≡ false
+    → ((k : ℕ) → k < F .width → wrongCell F (a .profile) (phaseOf F j n) (a .symbol) k ≡ false) → receiveGroundsAt F j n a ≡ Fine
 unfolding receiveGroundsAt ground20
-no-ground F j n a hl hb hw = λ i.
-    ground? 17 (when (not (eq-eqb (length (a .symbol)) (F .width) hl i) || hb i) 0)
-    else ground? 20 (none-lowest (wrongCell F (phaseOf F j n) (a .symbol)) (F .width) hw i)
+no-ground F j n a hp hl hb hw = λ i.
+    hp i
+    else ground? 17 (when (not (eq-eqb (length (a .symbol)) (F .width) hl i) || hb i) 0)
+    else ground? 20 (none-lowest (wrongCell F (a .profile) (phaseOf F j n) (a .symbol)) (F .width) hw i)
 
-right-cell : (F : Frame) (j : ℕ) (y : List ℕ) (k : ℕ) → fitsRole (F .role j k) (getD y k 0) ≡ true → wrongCell F j y k ≡ false
+right-cell : (F : Frame) (w : List ℕ) (j : ℕ) (y : List ℕ) (k : ℕ) → fitsRole (limitAt w k) (F .role j k) (getD y k 0) ≡ true → wrongCell F w j y k ≡ false
 unfolding wrongCell
-right-cell F j y k h = ap not h
+right-cell F w j y k h = ap not h
 
 -- the buffer does not matter while warming
 enough : (F : Frame) (v : ReceiverState) (b : List ℕ) → (F .depth - 1 ≤ v .heard → outCount F v ≤ length b) → shortBuffer F v b ≡ false
@@ -107,7 +110,7 @@ module _ (F : Frame) (ok : Sound F) (j : ℕ) (e : Emitter) (fresh : FreshIn F j
     out-data : (t : ℕ) → t + (F .depth - 1) < length hs → dataOf F (phaseOf F j t) (gatheredCells F hs t) ≡ dataList F (phaseOf F j t) (getD gs t flush)
     out-data t h =
         data-back F (phaseOf F j t) (getD gs t flush) (gatheredCells F hs t)
-        (list-length F (phaseOf F j t) (getD gs t flush) (input-fine F j e fresh steps t (omega (arith, no-more))))
+        (list-length F top (phaseOf F j t) (getD gs t flush) (input-top F j e fresh steps t (omega (arith, no-more))))
         (λ p hp. out-cell t p h hp)
 
     back : (t : ℕ) → t + (F .depth - 1) < length hs
@@ -118,28 +121,30 @@ module _ (F : Frame) (ok : Sound F) (j : ℕ) (e : Emitter) (fresh : FreshIn F j
         outcome-at (t + (F .depth - 1)) h
         ∙ rw (zero-add (t + (F .depth - 1)), le-ltb (t + (F .depth - 1)) (F .depth - 1) (omega arith), out-phase F ok j t, q) (ap (handed (dataCells F j t)) (out-data t h))
 
-    module _ (fitting : (n k : ℕ) → n < length ys → k < F .width → fitsRole (F .role (phaseOf F j n) k) (getD (getD ys n []) k 0) ≡ true) where
-      next : (a : Arrival) → length hs < length ys → a .symbol ≡ getD ys (length hs) []
+    module _ (w : List ℕ) (listed : ground25 (F .width) w ≡ Fine)
+        (fitting : (n k : ℕ) → n < length ys → k < F .width → fitsRole (limitAt w k) (F .role (phaseOf F j n) k) (getD (getD ys n []) k 0) ≡ true) where
+      next : (a : Arrival) → a .profile ≡ w → length hs < length ys → a .symbol ≡ getD ys (length hs) []
           → (F .depth - 1 ≤ length hs → dataCells F j (length hs - (F .depth - 1)) ≤ length (a .buffer))
           → isReceived (frameReceive F (receiverAfter (frameEntries F) v arrivals) a .answer) ≡ true
-      next a h is room =
+      next a under h is room =
           let n : ℕ = length hs in
           let l : n < length gs = rw (length-sent F e steps) at h in
           let y : length (a .symbol) ≡ F .width = ap length (is ∙ sent-at F ok j e fresh steps n l) ∙ length-line F (ok .key-inj) (closedCells F j gs n) in
           fine-received F (receiverAfter (frameEntries F) v arrivals) a
           (receive-grounds F ok j v listens arrivals a
-          ∙ no-ground F j n a y
+          ∙ no-ground F j n a (rw under listed) y
           (enough F (receiverState F j n) (a .buffer) (λ m. let c : F .depth - 1 ≤ n = omega (arith, m) in rw (out-count F ok j n c) (room c)))
-          (λ k hk. right-cell F (phaseOf F j n) (a .symbol) k (rw is (fitting n k h hk))))
+          (λ k hk. rw under (right-cell F w (phaseOf F j n) (a .symbol) k (rw is (fitting n k h hk)))))
 
--- from a fresh start, if the sent symbols fit their roles
+-- from a fresh start, if the sent symbols of steps under one profile fit their roles
 pub returned : (F : Frame) → Sound F → (j : ℕ) (e : Emitter) → FreshIn F j e → (steps : List Send) (v : Receiver) → ListensIn F j v → (arrivals : List Arrival)
-    → ((n k : ℕ) → n < length (sent (frameEntries F) e steps) → k < F .width → fitsRole (F .role (phaseOf F j n) k) (getD (getD (sent (frameEntries F) e steps) n []) k 0) ≡ true)
+    → ((w : List ℕ) → UnderProfile w steps → (n k : ℕ) → n < length (sent (frameEntries F) e steps) → k < F .width
+    → fitsRole (limitAt w k) (F .role (phaseOf F j n) k) (getD (getD (sent (frameEntries F) e steps) n []) k 0) ≡ true)
     → Follows (sent (frameEntries F) e steps) (heard (frameEntries F) v arrivals)
-    → Returned F (frameEntries F) j (input (frameEntries F) e steps) (sent (frameEntries F) e steps) v arrivals
+    → Returned F (frameEntries F) j steps (input (frameEntries F) e steps) (sent (frameEntries F) e steps) v arrivals
 returned F ok j e fresh steps v listens arrivals fitting follows = record {
   each = length-outcomes F v arrivals;
   warms = warms F ok j e fresh steps v listens arrivals;
   back = back F ok j e fresh steps v listens arrivals follows;
-  next = λ a w b. next F ok j e fresh steps v listens arrivals follows fitting a;
+  next = λ w listed under a is u b. next F ok j e fresh steps v listens arrivals follows w listed (fitting w under) a is;
 }

@@ -1,68 +1,89 @@
 -- A step under an accepted plan: it is sent exactly if no ground refuses it, and else changes nothing; and what a fresh start leaves. Assumes nothing.
 use Prim.Native.Nat.{ℕ, _≤_, _<_}
-use mathlib.Core.Path.{_≡_, refl, sym, ap, _∙_}
+use mathlib.Core.Path.{_≡_, refl, sym, ap, _∙_, subst}
 use mathlib.Core.Logic.{_↔_}
 use mathlib.Core.Bool.{Bool, true, false, not, false≢true}
-use mathlib.Core.Option.{Option, none, some}
 use mathlib.Core.List.{List, _∷_}
-use lib.Dec.{ltb, eqb}
+use native.Mathlib.Omega.{arith}
+use lib.Dec.{ltb}
 use lib.ListN.{length, getD, length-replicate}
 use borrow.Author.Tests.{ltb-false, leb-false, eqb-true, not-false}
-use Rattle.counting.specs.Search.{when, lowest}
+use Rattle.counting.specs.Search.{when, lowest, select}
 use Rattle.counting.proofs.Laws.{lowest-none}
 use Rattle.rules.specs.declared.Device.{Device}
 use Rattle.rules.specs.declared.Finding.{Finding}
 use Rattle.rules.specs.declared.Finding.the-variants.{Fine, Ground}
 use Rattle.rules.specs.declared.StartAnswer.the-variants as a-start
 use Rattle.rules.specs.declared.ListenAnswer.the-variants as a-listen
+use Rattle.rules.specs.declared.CountAnswer.the-variants as a-count
 use Rattle.rules.specs.Plan.{planOf}
 use Rattle.rules.specs.Grounds.{ground?, grounds1to15}
-use Rattle.rules.specs.Frame.{Frame, frameOf, dataCount, Given, flush, symbol, dataList, filler, topData}
+use Rattle.rules.specs.Frame.{Frame, frameOf, cells, spot, isData, dataCount, Given, flush, symbol, dataList, filler, topData}
+use Rattle.rules.specs.Loads.{loadLimit, limitAt, dataLoads, ground19}
+use Rattle.rules.specs.Filling.{fills, frameFill, frameUnfill, fillStep, unfillStep}
 use Rattle.rules.specs.Store.{emitterPlaces, freshStore}
-use Rattle.rules.specs.Steps.{Emitter, Send, Sending, Starting, starts, refused, ground16, shortStore, ground17, givenGrounds, sendGrounds, nextState, sentStore, sentSymbol, accepted, frameStep, startGrounds, frameStart, sendStep, startStep}
+use Rattle.rules.specs.Steps.{Emitter, Send, Sending, Starting, starts, refused, ground16, shortStore, ground17, profileGround, ground18, givenGrounds, sendGrounds, nextState, sentStore, sentSymbol, accepted, frameStep, startGrounds, frameStart, sendStep, startStep}
 use Rattle.rules.specs.Receive.{listens, turnedAway, frameReceive, frameListen, hearStep, listenStep}
-use Rattle.records.proofs.RecordLaws.{not-fine, both-fine}
-use Rattle.facts.proofs.Accepted.{when-fine}
+use Rattle.rules.proofs.Findings.{both-fine, when-fine, no-place, by-finding}
+use Rattle.rules.proofs.Loads.{loaded, limit-top}
+use Rattle.frame.proofs.Loads.{load-at}
 use Rattle.runs.specs.Run.{acceptedSteps, Entries, cellEntries, readGiven, isSent, stateOf, emitterLeft, input, sent, isStarted, Fresh}
-
--- ---- findings
-
--- a ground that is not found has no place
-no-place : (n : ℕ) (o : Option ℕ) → ground? n o ≡ Fine → o ≡ none
-no-place n none e = refl
-no-place n (some place) e = absurd (not-fine e)
-
--- nothing was found, or a ground
-pub by-finding {ℓ} : {P : Type ℓ} (f : Finding) → (f ≡ Fine → P) → ((n place : ℕ) → f ≡ Ground n place → P) → P
-by-finding Fine a b = a refl
-by-finding (Ground n place) a b = b n place refl
 
 -- ---- what was given to an accepted step
 
-module _ (F : Frame) (j : ℕ) where
-  pub given-length : (ds : List ℕ) → givenGrounds F j (symbol ds) ≡ Fine → length ds ≡ dataCount F j
-  unfolding givenGrounds
-  given-length ds e =
-      eqb-true (length ds) (dataCount F j)
-      (not-false _ (when-fine 18 0 _ (both-fine _ (ground? 19 (lowest (λ i. ltb topData (getD ds i 0)) (length ds))) e .0)))
+-- what a step is given at phase j is a flush, or N_D numbers, each up to the limit of the subcarrier it is sent on
+abbrev pub Within : Frame → (ℕ → ℕ) → ℕ → Given → Type 0
+Within F limit j flush = Unit {0}
+Within F limit j (symbol ds) = (length ds ≡ dataCount F j) × ((c : ℕ) → c < length ds → getD ds c 0 ≤ limit (spot F (select (isData F j) (cells F) c)))
 
-  pub given-data : (ds : List ℕ) → givenGrounds F j (symbol ds) ≡ Fine → (c : ℕ) → c < length ds → getD ds c 0 ≤ topData
-  unfolding givenGrounds
-  given-data ds e c h =
-      ltb-false topData (getD ds c 0)
-      (lowest-none (λ i. ltb topData (getD ds i 0)) (length ds)
-      (no-place 19 _ (both-fine (ground? 18 (when (not (eqb (length ds) (dataCount F j))) 0)) _ e .1)) c h)
+-- every subcarrier has the limit 16383
+abbrev pub top : ℕ → ℕ
+top k = topData
 
-  pub list-length : (g : Given) → givenGrounds F j g ≡ Fine → length (dataList F j g) ≡ dataCount F j
-  unfolding dataList
-  list-length flush e = length-replicate (dataCount F j) filler
-  list-length (symbol ds) e = given-length ds e
+module _ (F : Frame) (w : List ℕ) (j : ℕ) where
+  pub given-within : (g : Given) → givenGrounds F w j g ≡ Fine → Within F (limitAt w) j g
+  unfolding givenGrounds ground18 ground19
+  given-within flush e = tt
+  given-within (symbol ds) e =
+      let f = both-fine (ground18 F j (length ds)) (ground19 F w j ds) e in
+      let number : length ds ≡ dataCount F j = eqb-true (length ds) (dataCount F j) (not-false _ (when-fine 18 0 _ (f .0))) in (
+        number,
+        λ c h.
+            let fits : getD ds c 0 ≤ loadLimit (getD (dataLoads F w j) c 0) =
+            ltb-false _ _ (lowest-none (λ i. ltb (loadLimit (getD (dataLoads F w j) i 0)) (getD ds i 0)) (length ds) (no-place 19 _ (f .1)) c h) in
+            subst (λ (l : ℕ). getD ds c 0 ≤ loadLimit l) (load-at F w j c (omega arith)) fits,
+      )
+
+  -- under a profile that 25 does not refuse no number is above 16383
+  pub within-top : (g : Given) → profileGround F w g ≡ Fine → Within F (limitAt w) j g → Within F top j g
+  unfolding profileGround
+  within-top flush e h = tt
+  within-top (symbol ds) e h = (
+    h .0,
+    λ c l.
+        let k : ℕ = spot F (select (isData F j) (cells F) c) in
+        omega (arith, h .1 c l, limit-top (getD w k 0) (loaded (F .width) w e .small k)),
+  )
+
+pub list-length : (F : Frame) (limit : ℕ → ℕ) (j : ℕ) (g : Given) → Within F limit j g → length (dataList F j g) ≡ dataCount F j
+unfolding dataList
+list-length F limit j flush h = length-replicate (dataCount F j) filler
+list-length F limit j (symbol ds) h = h .0
 
 -- ---- one step
 
 -- the entries under an accepted plan whose frame is F
 abbrev pub frameEntries : Frame → Entries
-frameEntries F = record { start = frameStart F; send = frameStep F; listen = frameListen F; hear = frameReceive F; whole = λ x. true; read = λ x. x }
+frameEntries F = record {
+  start = frameStart F;
+  send = frameStep F;
+  listen = frameListen F;
+  hear = frameReceive F;
+  fill = frameFill F;
+  unfill = frameUnfill F;
+  whole = λ x. true;
+  read = λ x. x;
+}
 
 pub as-given : (g : Given) → readGiven (λ x. x) g ≡ g
 as-given flush = refl
@@ -73,9 +94,11 @@ unfoldable pub next : Frame → Emitter → Given → Emitter
 next F e g = record { state = nextState F (e .state); store = sentStore F e g }
 
 module _ (F : Frame) (e : Emitter) (a : Send) where
-  pub fine-given : sendGrounds F e a ≡ Fine → givenGrounds F (e .state .phase) (a .given) ≡ Fine
+  pub fine-given : sendGrounds F e a ≡ Fine → (profileGround F (a .profile) (a .given) ≡ Fine) × (givenGrounds F (a .profile) (e .state .phase) (a .given) ≡ Fine)
   unfolding sendGrounds
-  fine-given h = both-fine (ground17 F (emitterPlaces F) (e .store) (a .room)) _ (both-fine (ground16 F (e .state .phase)) _ h .1) .1
+  fine-given h =
+      let f = both-fine (profileGround F (a .profile) (a .given)) _ h in
+      (f .0, both-fine (ground17 F (emitterPlaces F) (e .store) (a .room)) _ (both-fine (ground16 F (e .state .phase)) _ (f .1) .1) .1)
 
   pub step-fine : sendGrounds F e a ≡ Fine → frameStep F e a ≡ accepted F e (a .given)
   unfolding frameStep
@@ -184,12 +207,14 @@ fresh-in F j e f = started F j (f .lent) e (f .start)
 
 -- its entries are those of its frame
 pub frame-entries : (d : Device) (s : List ℕ) → grounds1to15 d s ≡ Fine → cellEntries d s ≡ frameEntries (frameOf d (planOf s))
-unfolding startStep sendStep listenStep hearStep
+unfolding startStep sendStep listenStep hearStep fillStep unfillStep
 frame-entries d s fine = λ i. record {
   start = λ j lent. elim (fine i) [ Fine ↦ frameStart (frameOf d (planOf s)) j lent | Ground n place ↦ starts (a-start.Refused n place) lent ];
   send = λ e a. elim (fine i) [ Fine ↦ frameStep (frameOf d (planOf s)) e a | Ground n place ↦ refused e a n place ];
   listen = λ j lent. elim (fine i) [ Fine ↦ frameListen (frameOf d (planOf s)) j lent | Ground n place ↦ listens (a-listen.Refused n place) lent ];
   hear = λ v a. elim (fine i) [ Fine ↦ frameReceive (frameOf d (planOf s)) v a | Ground n place ↦ turnedAway v a n place ];
+  fill = λ w j b a room. elim (fine i) [ Fine ↦ frameFill (frameOf d (planOf s)) w j b a room | Ground n place ↦ fills (a-count.Refused n place) room ];
+  unfill = λ w j ds a b. elim (fine i) [ Fine ↦ frameUnfill (frameOf d (planOf s)) w j ds a b | Ground n place ↦ fills (a-count.Refused n place) b ];
   whole = λ x. true;
   read = λ x. x;
 }

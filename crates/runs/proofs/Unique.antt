@@ -9,40 +9,41 @@ use native.Mathlib.Omega.{arith}
 use lib.ListN.{length, getD, getD-replicate}
 use lib.Seq.{ext-getD}
 use Rattle.counting.specs.Search.{select}
-use Rattle.rules.specs.declared.Finding.the-variants.{Fine}
 use Rattle.rules.specs.Frame.{Frame, cells, spot, delay, isData, dataCount, Given, flush, symbol, dataList, inputCells, filler}
-use Rattle.rules.specs.Steps.{Emitter, Send, givenGrounds}
+use Rattle.rules.specs.Steps.{Emitter, Send}
 use Rattle.frame.specs.Counted.{phaseOf}
 use Rattle.frame.proofs.Cells.{Sound, data-cell, data-cell-at}
 use Rattle.runs.specs.Run.{input, sent}
-use Rattle.runs.specs.Demand3.{sentNumber, Flushed}
-use Rattle.runs.proofs.Steps.{frameEntries, given-length, given-data, list-length, FreshIn}
-use Rattle.runs.proofs.Emit.{closedSent, delay-below, length-sent, sent-closed, input-fine}
+use Rattle.runs.specs.Follow.{Flushed}
+use Rattle.runs.specs.Demand3.{sentNumber}
+use Rattle.runs.proofs.Steps.{frameEntries, Within, top, list-length, FreshIn}
+use Rattle.runs.proofs.Emit.{closedSent, delay-below, length-sent, sent-closed, input-top}
 use Rattle.runs.proofs.Places.{cell-stands}
 
 -- ---- one step: the cells of an input symbol tell what was given
 
 module _ (F : Frame) (j : ℕ) (some : 1 ≤ dataCount F j) where
   -- a flush is no data symbol: filler is no data
-  differ : (ds : List ℕ) → givenGrounds F j (symbol ds) ≡ Fine → dataList F j flush ≡ dataList F j (symbol ds) → ⊥
+  differ : (ds : List ℕ) → Within F top j (symbol ds) → dataList F j flush ≡ dataList F j (symbol ds) → ⊥
   unfolding dataList
   differ ds h e =
       let v : getD ds 0 0 ≡ filler = ap (λ (l : List ℕ). getD l 0 0) (sym e) ∙ getD-replicate (dataCount F j) 0 filler 0 some in
-      omega (arith, given-data F j ds h 0 (omega (arith, given-length F j ds h)))
+      let l : 0 < length ds = omega (arith, h .0) in
+      omega (arith, h .1 0 l)
 
-  list-inj : (g g′ : Given) → givenGrounds F j g ≡ Fine → givenGrounds F j g′ ≡ Fine → dataList F j g ≡ dataList F j g′ → g ≡ g′
+  list-inj : (g g′ : Given) → Within F top j g → Within F top j g′ → dataList F j g ≡ dataList F j g′ → g ≡ g′
   list-inj flush flush h h′ e = refl
   list-inj flush (symbol ds) h h′ e = absurd (differ ds h′ e)
   list-inj (symbol ds) flush h h′ e = absurd (differ ds h (sym e))
   list-inj (symbol ds) (symbol ds′) h h′ e = unfold dataList in ap symbol e
 
   -- input symbols with the same cells were given the same
-  given-inj : (g g′ : Given) → givenGrounds F j g ≡ Fine → givenGrounds F j g′ ≡ Fine
+  given-inj : (g g′ : Given) → Within F top j g → Within F top j g′
       → ((q : ℕ) → q < cells F → getD (inputCells F j g) q 0 ≡ getD (inputCells F j g′) q 0) → g ≡ g′
   given-inj g g′ h h′ same =
-      let n : length (dataList F j g) ≡ dataCount F j = list-length F j g h in
+      let n : length (dataList F j g) ≡ dataCount F j = list-length F top j g h in
       list-inj g g′ h h′
-      (ext-getD 0 (dataList F j g) (dataList F j g′) (n ∙ sym (list-length F j g′ h′))
+      (ext-getD 0 (dataList F j g) (dataList F j g′) (n ∙ sym (list-length F top j g′ h′))
       (λ c l.
       let l′ : c < dataCount F j = omega arith in
       sym (data-cell-at F j c g l′) ∙ same (select (isData F j) (cells F) c) ((data-cell F j c l′) .below) ∙ data-cell-at F j c g′ l′))
@@ -58,7 +59,7 @@ module _ (F : Frame) (ok : Sound F) (some : (j : ℕ) → j < F .phases → 1 �
   same-given i same l l′ =
       given-inj F (phaseOf F j i) (some (phaseOf F j i) (mod-lt (j + i) (omega (arith, fresh .phase-in))))
       (getD (input (frameEntries F) e steps) i flush) (getD (input (frameEntries F) e′ steps′) i flush)
-      (input-fine F j e fresh steps i (omega arith)) (input-fine F j e′ fresh′ steps′ i (omega arith))
+      (input-top F j e fresh steps i (omega arith)) (input-top F j e′ fresh′ steps′ i (omega arith))
       (λ q hq.
       let d : delay F q < F .depth = delay-below F ok q in
       sym (cell-stands F ok j e fresh steps i q hq (omega arith))

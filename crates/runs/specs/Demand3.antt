@@ -1,17 +1,22 @@
--- Demand 3: one claim about whole runs from a fresh start (document 01, "Cells and interleaving"), of entries over cells or over bytes. Statements only. Assumes nothing.
+-- Demand 3: one claim about whole runs from a fresh start (document 01, "Cells and interleaving"; 02, request 07), of entries over cells or over bytes. Statements only.
+-- Assumes nothing.
 use Prim.Native.Nat.{ℕ, _+_, _-_, _≤_, _<_}
 use mathlib.Core.Path.{_≡_}
 use mathlib.Core.Logic.{_↔_}
 use mathlib.Core.Bool.{true}
 use mathlib.Core.List.{List, []}
-use lib.ListN.{length, getD, take}
+use lib.ListN.{length, getD}
 use Rattle.counting.specs.Search.{select}
 use Rattle.rules.specs.declared.Role.the-variants.{Data}
+use Rattle.rules.specs.declared.Finding.the-variants.{Fine}
 use Rattle.rules.specs.Frame.{Frame, cells, spot, delay, isData, dataCount, Given, flush, symbol, dataList}
+use Rattle.rules.specs.Loads.{ground25}
 use Rattle.rules.specs.Steps.{Emitter, Send}
 use Rattle.rules.specs.Receive.{Receiver, Arrival}
 use Rattle.frame.specs.Counted.{phaseOf}
-use Rattle.runs.specs.Run.{Entries, input, sent, Fresh, isReceived, warming, handed, refused, heard, outcomes, receiverAfter, FreshReceiver}
+use Rattle.runs.specs.Run.{Entries, UnderProfile, input, sent, Fresh, isReceived, warming, handed, refused, heard, outcomes, receiverAfter, FreshReceiver}
+use Rattle.runs.specs.Follow.{Flushed, Follows}
+use Rattle.runs.specs.Streams.{Streams}
 
 -- How many data cells input t has, from the starting phase j; `phaseOf F j t` is the phase of input t, and of sent symbol t.
 abbrev pub dataCells : Frame → ℕ → ℕ → ℕ
@@ -43,25 +48,16 @@ pub record Placed (F : Frame) (j : ℕ) (gs : List Given) (ys : List (List ℕ))
   pub stands : (t c : ℕ) (ds : List ℕ) → t < length gs → getD gs t flush ≡ symbol ds → c < length ds → sentNumber F t (dataCell F j t c) < length ys
       → getD (getD ys (sentNumber F t (dataCell F j t c)) []) (spot F (dataCell F j t c)) 0 ≡ getD ds c 0
 
--- a flushed run has flushes as its last M - 1 accepted steps
-pub record Flushed (m : ℕ) (gs : List Given) : Type 0 where
-  pub enough : m - 1 ≤ length gs
-  pub last : (i : ℕ) → length gs ≤ i + (m - 1) → i < length gs → getD gs i flush ≡ flush
-
--- A receiver's run follows an emitter's, of the same plan and starting phase, if its accepted steps were given the first symbols sent, in order.
-abbrev pub Follows : List (List ℕ) → List (List ℕ) → Type 0
-Follows ys hs = hs ≡ take (length hs) ys
-
--- the outcomes of the steps of a receiver v, if its run follows an emitter's with the input gs and the sent symbols ys
-pub record Returned (F : Frame) (E : Entries) (j : ℕ) (gs : List Given) (ys : List (List ℕ)) (v : Receiver) (steps : List Arrival) : Type 0 where
+-- the outcomes of the steps of a receiver v, if its run follows an emitter's of the steps sends, with the input gs and the sent symbols ys
+pub record Returned (F : Frame) (E : Entries) (j : ℕ) (sends : List Send) (gs : List Given) (ys : List (List ℕ)) (v : Receiver) (steps : List Arrival) : Type 0 where
   -- each accepted step has one; numbers 0 to M - 2 answer warming
   pub each : length (outcomes E v steps) ≡ length (heard E v steps)
   pub warms : (i : ℕ) → i < length (heard E v steps) → i < F .depth - 1 → getD (outcomes E v steps) i refused ≡ warming
   -- number t + M - 1 answers data, with N_D of input t as its count, and hands out the data cells of input t in the order given, all filler for a flush
   pub back : (t : ℕ) → t + (F .depth - 1) < length (heard E v steps)
       → getD (outcomes E v steps) (t + (F .depth - 1)) refused ≡ handed (dataCells F j t) (dataList F (phaseOf F j t) (getD gs t flush))
-  -- one more step, given the next symbol sent and, unless it is to answer warming, a data buffer long enough, is not refused
-  pub next : (a : Arrival) → E .whole (a .symbol) ≡ true → E .whole (a .buffer) ≡ true
+  -- one more step, given the profile that the emitter's run is under, the next symbol sent and, unless it is to answer warming, a data buffer long enough, is not refused
+  pub next : (w : List ℕ) → ground25 (F .width) w ≡ Fine → UnderProfile w sends → (a : Arrival) → a .profile ≡ w → E .whole (a .symbol) ≡ true → E .whole (a .buffer) ≡ true
       → length (heard E v steps) < length ys → E .read (a .symbol) ≡ getD ys (length (heard E v steps)) []
       → (F .depth - 1 ≤ length (heard E v steps) → dataCells F j (length (heard E v steps) - (F .depth - 1)) ≤ length (E .read (a .buffer)))
       → isReceived (E .hear (receiverAfter E v steps) a .answer) ≡ true
@@ -76,4 +72,6 @@ pub record Demand3 (F : Frame) (E : Entries) : Type 0 where
       → (sent E e steps ≡ sent E e′ steps′) ↔ (input E e steps ≡ input E e′ steps′)
   -- the receiver hands the input back
   pub returned : (j : ℕ) (e : Emitter) (v : Receiver) → Fresh E j e → FreshReceiver E j v → (steps : List Send) (arrivals : List Arrival)
-      → Follows (sent E e steps) (heard E v arrivals) → Returned F E j (input E e steps) (sent E e steps) v arrivals
+      → Follows (sent E e steps) (heard E v arrivals) → Returned F E j steps (input E e steps) (sent E e steps) v arrivals
+  -- and so with bit streams, under one profile that 25 does not refuse
+  pub streams : (w : List ℕ) → ground25 (F .width) w ≡ Fine → Streams F E w

@@ -1,3 +1,5 @@
 pub mod Run
+pub mod Follow
+pub mod Streams
 pub mod Demand3
 pub mod Claims

@@ -18,6 +18,7 @@ use Rattle.rules.specs.declared.StartAnswer.the-variants as an-emitter
 use Rattle.rules.specs.declared.ListenAnswer.the-variants as a-receiver
 use Rattle.rules.specs.Frame.{Given, flush, symbol}
 use Rattle.rules.specs.Steps.{Emitter, Send, Sending, Starting, starts, startStep, sendStep}
+use Rattle.rules.specs.Filling.{Filling, fillStep, unfillStep}
 use Rattle.rules.specs.Receive.{Receiver, Arrival, Receiving, Listening, listens, listenStep, hearStep}
 
 -- ---- any run: how steps go, which are accepted, and what the next one is given
@@ -42,17 +43,39 @@ pub record Entries : Type 0 where
   pub send : Emitter → Send → Sending
   pub listen : ℕ → List ℕ → Listening
   pub hear : Receiver → Arrival → Receiving
+  pub fill : List ℕ → ℕ → List ℕ → ℕ → List ℕ → Filling
+  pub unfill : List ℕ → ℕ → List ℕ → ℕ → List ℕ → Filling
   pub whole : List ℕ → Bool
   pub read : List ℕ → List ℕ
 
 -- the entries over cells, for the device d and a plan's bytes s: a number is a cell
 abbrev pub cellEntries : Device → List ℕ → Entries
-cellEntries d s = record { start = startStep d s; send = sendStep d s; listen = listenStep d s; hear = hearStep d s; whole = λ x. true; read = λ x. x }
+cellEntries d s = record {
+  start = startStep d s;
+  send = sendStep d s;
+  listen = listenStep d s;
+  hear = hearStep d s;
+  fill = fillStep d s;
+  unfill = unfillStep d s;
+  whole = λ x. true;
+  read = λ x. x;
+}
 
 -- what a step was given, in cells
 abbrev pub readGiven : (List ℕ → List ℕ) → Given → Given
 readGiven read flush = flush
 readGiven read (symbol ds) = symbol (read ds)
+
+-- ---- runs under one profile
+
+-- a step that is given a load profile is given w; a flush is given none
+abbrev pub GivenProfile : List ℕ → Send → Type 0
+GivenProfile w a = (ds : List ℕ) → a .given ≡ symbol ds → a .profile ≡ w
+
+-- an emitter's run is under one profile, w: the same wherever one is given (document 02, request 07)
+abbrev pub UnderProfile : List ℕ → List Send → Type 0
+UnderProfile w [] = Unit {0}
+UnderProfile w (a ∷ rest) = GivenProfile w a × UnderProfile w rest
 
 -- ---- an emitter's run
 

@@ -15,17 +15,17 @@ isFlush t = eqb (t % 3) 2
 abbrev pub seedOf : ℕ → ℕ → ℕ
 seedOf s t = (s * 131 + t) * 4099 % 2147483647
 
--- data cell c of that number; positions count modulo 65536
-abbrev pub dataCell : ℕ → ℕ → ℕ
-dataCell seed c = (seed + c % 65536) * 48271 % 2147483647 % 16384
+-- data cell c of that number, up to the limit of the cell; positions count modulo 65536
+abbrev pub dataCell : ℕ → List ℕ → ℕ → ℕ
+dataCell seed limits c = (seed + c % 65536) * 48271 % 2147483647 % (getD limits c 0 + 1)
 
 -- what stands in cell c of the data buffer when the first n cells of input t have come out: 43981 stood there before, 32769 is filler
-abbrev pub wantedAt : ℕ → ℕ → ℕ → ℕ → ℕ
-wantedAt s t n c = pick (leb n c) 43981 (pick (isFlush t) 32769 (dataCell (seedOf s t) c))
+abbrev pub wantedAt : ℕ → ℕ → ℕ → List ℕ → ℕ → ℕ
+wantedAt s t n limits c = pick (leb n c) 43981 (pick (isFlush t) 32769 (dataCell (seedOf s t) limits c))
 
 -- something else stands there
-abbrev pub isOther : ℕ → ℕ → ℕ → List ℕ → ℕ → Bool
-isOther s t n cells c = not (eqb (getD cells c 0) (wantedAt s t n c))
+abbrev pub isOther : ℕ → ℕ → ℕ → List ℕ → List ℕ → ℕ → Bool
+isOther s t n limits cells c = not (eqb (getD cells c 0) (wantedAt s t n limits c))
 
 -- a wrong receive of this kind spoils such a cell: 6 a placeholder, 7 data or filler, another kind none
 abbrev pub isSpoiled : ℕ → ℕ → Bool

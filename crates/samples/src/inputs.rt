@@ -1,10 +1,12 @@
-// The data of linkcheck's input symbols, which can be worked out again when it comes out of the receiver (docs/LINKCHECK.md).
+// The data of linkcheck's input symbols, which can be worked out again when it comes out of the receiver (docs/LINKCHECK.md). A cell has a
+// limit, that of its load; `limits` are those of the data cells in their order.
 ghost use mathlib.Core.Path.{_≡_};
-ghost use Prim.Native.Nat.{min};
+ghost use Prim.Native.Nat.{_+_, _%_, min};
 ghost use lib.Dec.{eqb};
 ghost use lib.ListN.{length, getD};
 ghost use Rattle.samples.specs.Drawn.{filled};
 ghost use Rattle.samples.specs.Inputs.{isFlush, seedOf, dataCell, wantedAt, isOther, isSpoiled, firstOf};
+use crate::at;
 use crate::at_most;
 
 // The mark of filler.
@@ -30,45 +32,53 @@ pub fn seed(start: u32, t: u32) -> u32
     (((start as u64) * 131 + t as u64) * 4099 % 2147483647) as u32
 }
 
-// The data cell at a position.
-fn cell(seed: u32, at: usize) -> u16
-    ensures { λ r. ⌜ r ≡ dataCell seed at ⌝ }
+// A number brought within a limit.
+fn within(limit: u16, x: u32) -> u16
+    ensures { λ r. ⌜ r ≡ x % (limit + 1) ⌝ }
 {
-    (((seed as u64 + (at % 65536) as u64) * 48271 % 2147483647) % 16384) as u16
+    (x % (limit as u32 + 1)) as u16
+}
+
+// The data cell at a position, up to its limit; a position past the last limit has the limit 0.
+fn cell(seed: u32, limits: &[u16], place: usize) -> u16
+    ensures { λ r. ⌜ r ≡ dataCell seed (now (limits .entry)) place ⌝ }
+{
+    let x = ((seed as u64 + (place % 65536) as u64) * 48271 % 2147483647) as u32;
+    within(at(limits, place), x)
 }
 
 // Fills the first n cells with the data of a seed, all where there are fewer.
-pub fn draw(seed: u32, n: usize, cells: &mut [u16])
-    ensures { λ _. ⌜ now (cells .exit) ≡ filled (dataCell seed) (min n (length (now (cells .entry)))) (now (cells .entry)) ⌝ }
+pub fn draw(seed: u32, n: usize, limits: &[u16], cells: &mut [u16])
+    ensures { λ _. ⌜ now (cells .exit) ≡ filled (dataCell seed (now (limits .entry))) (min n (length (now (cells .entry)))) (now (cells .entry)) ⌝ }
 {
     let end = at_most(n, cells);
     let mut i: usize = 0;
     while i < end {
-        cells[i] = cell(seed, i);
+        cells[i] = cell(seed, limits, i);
         i += 1;
     }
 }
 
 // What stands at a position when the first `count` cells of input t have come out: data, filler for a flush, else nothing new.
-pub fn wanted(start: u32, t: u32, count: usize, at: usize) -> u16
-    ensures { λ r. ⌜ r ≡ wantedAt start t count at ⌝ }
+pub fn wanted(start: u32, t: u32, count: usize, limits: &[u16], place: usize) -> u16
+    ensures { λ r. ⌜ r ≡ wantedAt start t count (now (limits .entry)) place ⌝ }
 {
-    if count <= at {
+    if count <= place {
         return UNTOUCHED;
     }
     if is_flush(t) {
         return FILLER;
     }
-    cell(seed(start, t), at)
+    cell(seed(start, t), limits, place)
 }
 
 // The first position at which something else stands; the length where there is none.
-pub fn first_other(start: u32, t: u32, count: usize, cells: &[u16]) -> usize
-    ensures { λ r. ⌜ r ≡ firstOf (isOther start t count (now (cells .entry))) (length (now (cells .entry))) ⌝ }
+pub fn first_other(start: u32, t: u32, count: usize, limits: &[u16], cells: &[u16]) -> usize
+    ensures { λ r. ⌜ r ≡ firstOf (isOther start t count (now (limits .entry)) (now (cells .entry))) (length (now (cells .entry))) ⌝ }
 {
     let mut i: usize = 0;
     while i < cells.len() {
-        if cells[i] != wanted(start, t, count, i) {
+        if cells[i] != wanted(start, t, count, limits, i) {
             return i;
         }
         i += 1;

@@ -17,8 +17,8 @@ use Rattle.rules.specs.Frame.{Frame, frameOf, cells, inputCells, lineSymbol}
 use Rattle.rules.specs.Places.{emitterDelay, oldest, moved}
 use Rattle.rules.specs.Store.{emitterPlaces}
 use Rattle.rules.specs.Steps as steps
-use Rattle.rules.specs.Steps.{Emitter, Send, Sending, leaves, ground16, ground17, givenGrounds, sendGrounds, nextState, sentStore, sentSymbol, accepted, frameStep, sendStep}
-use Rattle.records.proofs.RecordLaws.{both-fine}
+use Rattle.rules.specs.Steps.{Emitter, Send, Sending, leaves, ground16, ground17, profileGround, givenGrounds, sendGrounds, nextState, sentStore, sentSymbol, accepted, frameStep, sendStep}
+use Rattle.rules.proofs.Findings.{both-fine}
 use Rattle.rules.proofs.Answered.{accepted-is, refused-is}
 use Rattle.verdicts.proofs.Verdicts.{else-assoc}
 use Rattle.steps.proofs.Lent.{Lent, lent}
@@ -28,25 +28,46 @@ module _ (d : Device) (s : List ℕ) (e : Emitter) (a : Send) where
   abbrev F : Frame
   F = frameOf d (planOf s)
 
-  -- grounds 16 and 17 of a step, and those of what it is given
+  -- ground 25 of a step, 16 and 17, and those of what it is given
+  abbrev of-profile : Finding
+  of-profile = profileGround F (a .profile) (a .given)
+
   abbrev of-lent : Finding
   of-lent = ground16 F (e .state .phase) else ground17 F (emitterPlaces F) (e .store) (a .room)
 
   abbrev of-given : Finding
-  of-given = givenGrounds F (e .state .phase) (a .given)
+  of-given = givenGrounds F (a .profile) (e .state .phase) (a .given)
 
   -- refused as the plan is
   pub by-plan : (n place : ℕ) → grounds1to15 d s ≡ Ground n place → Refused n place ≡ sendVerdict d s e a
   unfolding sendVerdict
   by-plan n place h = sym (ap (λ (f : Finding). answer (f else sendGrounds F e a) (cells F)) h)
 
-  module _ (fine : grounds1to15 d s ≡ Fine) where
+  -- refused by 25
+  pub by-profile : grounds1to15 d s ≡ Fine → (n place : ℕ) → Ground n place ≡ of-profile → Refused n place ≡ sendVerdict d s e a
+  unfolding sendVerdict sendGrounds
+  by-profile fine n place h =
+      sym
+      (λ i. answer
+      (fine i
+      else sym h i
+      else ground16 F (e .state .phase)
+      else ground17 F (emitterPlaces F) (e .store) (a .room)
+      else of-given) (cells F))
+
+  module _ (fine : grounds1to15 d s ≡ Fine) (listed : of-profile ≡ Fine) where
     -- 16 and 17 come before those that speak of the data
     staged : (f : Finding) → f ≡ (of-lent else of-given) → answer f (cells F) ≡ sendVerdict d s e a
     unfolding sendVerdict sendGrounds
     staged f h =
         ap (λ (x : Finding). answer x (cells F)) (h ∙ else-assoc (ground16 F (e .state .phase)) (ground17 F (emitterPlaces F) (e .store) (a .room)) of-given)
-        ∙ sym (ap (λ (x : Finding). answer (x else sendGrounds F e a) (cells F)) fine)
+        ∙ sym
+        (λ i. answer
+        (fine i
+        else listed i
+        else ground16 F (e .state .phase)
+        else ground17 F (emitterPlaces F) (e .store) (a .room)
+        else of-given) (cells F))
 
     -- refused by 16 or 17
     pub by-lent : (n place : ℕ) → Ground n place ≡ of-lent → Refused n place ≡ sendVerdict d s e a
@@ -87,7 +108,9 @@ module _ (d : Device) (s : List ℕ) (e : Emitter) (a : Send) where
     pub fit : Lent F (e .state .phase) (emitterPlaces F) (e .store) (a .room)
     unfolding sendGrounds
     fit =
-        let late = both-fine (ground16 F (e .state .phase)) (ground17 F (emitterPlaces F) (e .store) (a .room) else of-given) (both-fine (grounds1to15 d s) (sendGrounds F e a) (passed .0) .1) in
+        let late = both-fine (ground16 F (e .state .phase)) (ground17 F (emitterPlaces F) (e .store) (a .room) else of-given)
+        (both-fine of-profile (ground16 F (e .state .phase) else ground17 F (emitterPlaces F) (e .store) (a .room) else of-given)
+        (both-fine (grounds1to15 d s) (sendGrounds F e a) (passed .0) .1) .1) in
         lent F (e .state .phase) (emitterPlaces F) (e .store) (a .room)
         (λ i. sym (late .0) i else sym (both-fine (ground17 F (emitterPlaces F) (e .store) (a .room)) of-given (late .1) .0) i)
 

@@ -13,7 +13,7 @@ use Rattle.rules.specs.Frame.{frameOf, cells, carrier, Given, inputCells}
 use Rattle.rules.specs.Steps.{Emitter, Send, sendGrounds}
 use Rattle.steps.specs.Ready.{Ready}
 
--- the first ground of 1 to 19 that refuses a step, or N_I
+-- the first ground that refuses a step, of 1 to 15, 25 and 16 to 19, or N_I
 unfoldable pub sendVerdict : Device → List ℕ → Emitter → Send → Verdict
 sendVerdict d s e a = answer (grounds1to15 d s else sendGrounds (frameOf d (planOf s)) e a) (cells (frameOf d (planOf s)))
 

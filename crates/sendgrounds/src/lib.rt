@@ -1,11 +1,15 @@
-// The opening of a sending step, for every form of its cells: grounds 1 to 19 and, where none holds, what the rest of the step works with.
+// The opening of a sending step, for every form of its cells: grounds 1 to 15, 25 and 16 to 19 and, where none holds, what the rest of the
+// step works with.
 // specs/Opening says which steps no ground refuses.
 ghost use mathlib.Core.Path.{_≡_};
 ghost use mathlib.Core.List.{List};
 ghost use Prim.Native.Nat.{ℕ, _≤_};
 ghost use lib.ListN.{length};
+ghost use Rattle.counting.specs.Search.{pick};
+ghost use Rattle.rules.specs.declared.Finding.the-variants.{Fine};
 ghost use Rattle.rules.specs.Device.{phases};
 ghost use Rattle.rules.specs.Fits.{Fits};
+ghost use Rattle.rules.specs.Loads.{ground25};
 ghost use Rattle.steps.specs.Ready.{Ready};
 ghost use Rattle.steps.specs.Begins.{Begins};
 ghost use Rattle.sending.specs.Sent.{givenBy, at, giving};
@@ -16,12 +20,13 @@ use rules::EmitterState;
 use rules::Finding;
 use rules::Verdict;
 
-// Grounds 16 to 19 of a step under an accepted plan of n cells, and what they leave, as `admit` has it.
+// Grounds 16 to 19 of a step under an accepted plan of n cells and a profile that 25 does not refuse, and what they leave, as `admit` has it.
 fn admit_step(
     d: Device,
     plan: &[u8],
     marks: &[u16; 4096],
     n: u32,
+    profile: &[u8],
     flushing: bool,
     state: EmitterState,
     places: usize,
@@ -31,8 +36,8 @@ fn admit_step(
     car: &mut [u16; 4096],
     x: &mut [u16],
 ) -> Verdict
-    requires { ⌜ Ready d (now plan) n (now marks) × (number ≤ d .subcarriers → number ≤ length (now given)) × (length (now car) ≡ 4096) × (d .subcarriers ≤ length (now x)) ⌝ }
-    ensures { λ r. ⌜ ((store ds room : List ℕ) → length store ≡ places → length room ≡ width → Begins (now (given .entry)) number ds → SendOpens r d (now (plan .entry)) (at state store) (giving (givenBy flushing ds) room) (now (marks .entry)) (now (car .exit)) (now (x .exit))) ⌝ }
+    requires { ⌜ Ready d (now plan) n (now marks) × (pick flushing Fine (ground25 (d .subcarriers) (now profile)) ≡ Fine) × (number ≤ d .subcarriers → number ≤ length (now given)) × (length (now car) ≡ 4096) × (d .subcarriers ≤ length (now x)) ⌝ }
+    ensures { λ r. ⌜ ((store ds room : List ℕ) → length store ≡ places → length room ≡ width → Begins (now (given .entry)) number ds → SendOpens r d (now (plan .entry)) (at state store) (giving (givenBy flushing ds) (now (profile .entry)) room) (now (marks .entry)) (now (car .exit)) (now (x .exit))) ⌝ }
 {
     let ni = n as usize;
     let m = records::number_at(plan, 6);
@@ -58,9 +63,11 @@ fn admit_step(
         CountAnswer::Count(nd) => match sending::fill_in(
             d,
             plan,
+            profile,
             j,
             flushing,
             nd as usize,
+            &kc,
             &flag,
             number,
             given,
@@ -72,12 +79,13 @@ fn admit_step(
     }
 }
 
-// Grounds 1 to 19 of a step whose store has so many places, and whose symbol so many cells: the first that holds, or N_I. The data are
-// `number` cells, the first ones of `given`. Where no ground holds, marks holds the marks, car the subcarriers by rank, and x begins with
+// Grounds 1 to 15, 25 and 16 to 19 of a step whose store has so many places, and whose symbol so many cells: the first that holds, or N_I.
+// A flush reads no profile. The data are `number` cells, the first ones of `given`. Where no ground holds, marks holds the marks, car the subcarriers by rank, and x begins with
 // the input symbol.
 pub fn admit(
     d: Device,
     plan: &[u8],
+    profile: &[u8],
     flushing: bool,
     state: EmitterState,
     places: usize,
@@ -89,23 +97,29 @@ pub fn admit(
     x: &mut [u16],
 ) -> Verdict
     requires { ⌜ Fits d × (d .depthMax ≤ phases) × (number ≤ d .subcarriers → number ≤ length (now given)) × (length (now marks) ≡ 4096) × (length (now car) ≡ 4096) × (d .subcarriers ≤ length (now x)) ⌝ }
-    ensures { λ r. ⌜ ((store ds room : List ℕ) → length store ≡ places → length room ≡ width → Begins (now (given .entry)) number ds → SendOpens r d (now (plan .entry)) (at state store) (giving (givenBy flushing ds) room) (now (marks .exit)) (now (car .exit)) (now (x .exit))) ⌝ }
+    ensures { λ r. ⌜ ((store ds room : List ℕ) → length store ≡ places → length room ≡ width → Begins (now (given .entry)) number ds → SendOpens r d (now (plan .entry)) (at state store) (giving (givenBy flushing ds) (now (profile .entry)) room) (now (marks .exit)) (now (car .exit)) (now (x .exit))) ⌝ }
 {
     match verdicts::study(d, plan, marks) {
         Verdict::Refused(g, place) => Verdict::Refused(g, place),
-        Verdict::Accepted(n) => admit_step(
-            d,
-            plan,
-            marks,
-            n,
-            flushing,
-            state,
-            places,
-            width,
-            number,
-            given,
-            car,
-            x,
-        ),
+        Verdict::Accepted(n) => {
+            if let Finding::Ground(g, place) = sending::profile_found(d, profile, flushing) {
+                return Verdict::Refused(g, place);
+            }
+            admit_step(
+                d,
+                plan,
+                marks,
+                n,
+                profile,
+                flushing,
+                state,
+                places,
+                width,
+                number,
+                given,
+                car,
+                x,
+            )
+        }
     }
 }

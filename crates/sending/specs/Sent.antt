@@ -15,9 +15,9 @@ givenBy false ds = symbol ds
 abbrev pub at : EmitterState → List ℕ → Emitter
 at e store = record { state = e; store = store }
 
-abbrev pub giving : Given → List ℕ → Send
-giving g room = record { given = g; room = room }
+abbrev pub giving : Given → List ℕ → List ℕ → Send
+giving g w room = record { given = g; profile = w; room = room }
 
--- what it answers and leaves: the plan, the kind, the state, the lent store, the data and the lent symbol
-abbrev pub stepBy : Device → List ℕ → Bool → EmitterState → List ℕ → List ℕ → List ℕ → Sending
-stepBy d s flushing e store ds room = sendStep d s (at e store) (giving (givenBy flushing ds) room)
+-- what it answers and leaves: the plan, the profile, the kind, the state, the lent store, the data and the lent symbol
+abbrev pub stepBy : Device → List ℕ → List ℕ → Bool → EmitterState → List ℕ → List ℕ → List ℕ → Sending
+stepBy d s w flushing e store ds room = sendStep d s (at e store) (giving (givenBy flushing ds) w room)

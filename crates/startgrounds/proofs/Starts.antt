@@ -29,8 +29,8 @@ use Rattle.rules.specs.Places.{receiverDelay, placesBefore}
 use Rattle.rules.specs.Store.{emitterPlaces, receiverPlaces, freshStore, fillerStore}
 use Rattle.rules.specs.Steps.{Starting, starts, ground16, shortStore, startGrounds, frameStart, startStep}
 use Rattle.rules.specs.Receive.{Listening, listens, frameListen, listenStep}
-use Rattle.records.proofs.RecordLaws.{both-fine}
-use Rattle.facts.proofs.Accepted.{when-fine, long, depth-in}
+use Rattle.rules.proofs.Findings.{both-fine, when-fine}
+use Rattle.facts.proofs.Accepted.{long, depth-in}
 use Rattle.verdicts.specs.Studied.{Studied}
 use Rattle.rules.proofs.Answered.{accepted-is, refused-is, accepted-cells}
 use Rattle.verdicts.proofs.Verdicts.{else-assoc, no-ground, first-ground}

@@ -33,23 +33,23 @@ pub record Front (r n : ℕ) (cells : List ℕ) : Type 0 where
 abbrev pub sentOver : ℕ → ℕ → List ℕ → List ℕ → Sent → Sent
 sentOver n w store symbol s = leaves (s .answer) (s .store ++ drop n store) (s .symbol ++ drop w symbol)
 
--- a flush, or an emit of the first cells of the data
-abbrev pub sendPart : List ℕ → Sending → List ℕ → List ℕ → List ℕ → Sent
-sendPart plan g store cells symbol =
+-- a flush, or an emit under the profile w of the first cells of the data
+abbrev pub sendPart : List ℕ → List ℕ → Sending → List ℕ → List ℕ → List ℕ → Sent
+sendPart plan w g store cells symbol =
     sentOver (g .store) (g .symbol) store symbol
     (pick (g .flush)
     (flushStep khz50 plan (record { phase = g .phase }) (take (g .store) store) (take (g .symbol) symbol))
-    (emitStep khz50 plan (record { phase = g .phase }) (take (g .store) store) (take (g .count) cells) (take (g .symbol) symbol)))
+    (emitStep khz50 plan w (record { phase = g .phase }) (take (g .store) store) (take (g .count) cells) (take (g .symbol) symbol)))
 
 -- a step on the first n cells of store and the first b of the data buffer, with what stands after them
 abbrev pub heardOver : ℕ → ℕ → List ℕ → List ℕ → Heard → Heard
 heardOver n b store buffer s = hears (s .answer) (s .store ++ drop n store) (s .buffer ++ drop b buffer)
 
--- a receive of the first cells of the symbol
-abbrev pub receivePart : List ℕ → Receiving → List ℕ → List ℕ → List ℕ → Heard
-receivePart plan g store symbol buffer =
+-- a receive under the profile w of the first cells of the symbol
+abbrev pub receivePart : List ℕ → List ℕ → Receiving → List ℕ → List ℕ → List ℕ → Heard
+receivePart plan w g store symbol buffer =
     heardOver (g .store) (g .buffer) store buffer
-    (receiveStep khz50 plan (record { phase = g .phase; heard = g .heard }) (take (g .store) store) (take (g .symbol) symbol) (take (g .buffer) buffer))
+    (receiveStep khz50 plan w (record { phase = g .phase; heard = g .heard }) (take (g .store) store) (take (g .symbol) symbol) (take (g .buffer) buffer))
 
 -- a fresh emitter in the first n cells, with what stands after them
 abbrev pub startPart : List ℕ → ℕ → ℕ → List ℕ → Starting

@@ -38,7 +38,7 @@ pub struct Receiving {
 }
 
 // How many of the cells to lend: n, or all where there are fewer.
-fn at_most(n: usize, cells: &[u16]) -> usize
+pub fn at_most(n: usize, cells: &[u16]) -> usize
     ensures { λ r. ⌜ Counts r (now (cells .entry)) ⌝ }
     ensures { λ r. ⌜ Front r n (now (cells .entry)) ⌝ }
 {
@@ -78,15 +78,16 @@ pub fn receiver_need(plan: &[u8]) -> usize
     }
 }
 
-// An emit or flush step.
+// An emit or flush step; a flush takes no profile.
 pub fn send(
     plan: &[u8],
+    profile: &[u8],
     given: Sending,
     store: &mut [u16],
     cells: &[u16],
     symbol: &mut [u16],
 ) -> SendAnswer
-    ensures { λ r. ⌜ leaves r (now (store .exit)) (now (symbol .exit)) ≡ sendPart (now (plan .entry)) given (now (store .entry)) (now (cells .entry)) (now (symbol .entry)) ⌝ }
+    ensures { λ r. ⌜ leaves r (now (store .exit)) (now (symbol .exit)) ≡ sendPart (now (plan .entry)) (now (profile .entry)) given (now (store .entry)) (now (cells .entry)) (now (symbol .entry)) ⌝ }
 {
     let state = EmitterState { phase: given.phase };
     let places = at_most(given.store, store);
@@ -97,6 +98,7 @@ pub fn send(
     let n = at_most(given.count, cells);
     emitter::emit(
         plan,
+        profile,
         state,
         &mut store[..places],
         &cells[..n],
@@ -107,12 +109,13 @@ pub fn send(
 // A receive step.
 pub fn receive(
     plan: &[u8],
+    profile: &[u8],
     given: Receiving,
     store: &mut [u16],
     symbol: &[u16],
     buffer: &mut [u16],
 ) -> ReceiveAnswer
-    ensures { λ r. ⌜ hears r (now (store .exit)) (now (buffer .exit)) ≡ receivePart (now (plan .entry)) given (now (store .entry)) (now (symbol .entry)) (now (buffer .entry)) ⌝ }
+    ensures { λ r. ⌜ hears r (now (store .exit)) (now (buffer .exit)) ≡ receivePart (now (plan .entry)) (now (profile .entry)) given (now (store .entry)) (now (symbol .entry)) (now (buffer .entry)) ⌝ }
 {
     let state = ReceiverState {
         phase: given.phase,
@@ -123,6 +126,7 @@ pub fn receive(
     let room = at_most(given.buffer, buffer);
     receiver::receive(
         plan,
+        profile,
         state,
         &mut store[..places],
         &symbol[..width],

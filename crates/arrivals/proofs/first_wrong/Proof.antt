@@ -17,8 +17,8 @@ wide-requires c κs = search needs
 
 returns : tie.Need-returns
 returns c =
-    let a = c .before .before .before .before .before .args in
-    let t = allowedAt (a .marks .now) (a .symbol .now) in
+    let a = c .before .before .before .before .before .before .args in
+    let t = allowedAt (a .limits .now) (a .marks .now) (a .symbol .now) in
     let e : count t (length (a .symbol .now)) ≡ length (a .symbol .now) = omega (arith, c .before .before .fitting-cells .ensures, c .before .wide .ensures .0, c .if1 .taken) in
     sym (all-fit t (length (a .symbol .now)) e)
 

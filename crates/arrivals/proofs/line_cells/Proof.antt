@@ -11,7 +11,7 @@ use Rattle.walk.specs.Stores.{stores}
 use Rattle.walk.proofs.Stores.{stores-next, stores-up}
 use Rattle.spots.proofs.Frames.{cells-le}
 use Rattle.frame.proofs.Cells.{spot-below}
-use Rattle.arrivals.proofs.Ordered.{taken-cells}
+use Rattle.frame.proofs.Ordered.{taken-cells}
 use Rattle.arrivals.proofs.line_cells.Statement.{statement}
 use Rattle.arrivals.proofs.line_cells.Tie as tie
 

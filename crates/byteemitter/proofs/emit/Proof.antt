@@ -10,13 +10,13 @@ use Rattle.byteemitter.proofs.emit.Statement.{statement}
 use Rattle.byteemitter.proofs.emit.Tie as tie
 
 -- the buffers that are of whole cells
-even-store : (c : tie.Else1) → odd (c .before .before .before .before .before .before .before .args .store .now) ≡ false
+even-store : (c : tie.Else1) → odd (c .before .before .before .before .before .before .before .before .args .store .now) ≡ false
 even-store c = sym (c .before .halved .ensures .0) ∙ c .if1 .left
 
-even-input : (c : tie.Else2) → odd (c .before .before .before .before .before .before .before .before .before .args .input .now) ≡ false
+even-input : (c : tie.Else2) → odd (c .before .before .before .before .before .before .before .before .before .before .args .input .now) ≡ false
 even-input c = sym (c .before .halved2 .ensures .0) ∙ c .if2 .left
 
-even-symbol : (c : tie.Else3) → odd (c .before .before .before .before .before .before .before .before .before .before .before .before .args .symbol .now) ≡ false
+even-symbol : (c : tie.Else3) → odd (c .before .before .before .before .before .before .before .before .before .before .before .before .before .args .symbol .now) ≡ false
 even-symbol c = sym (c .before .halved3 .ensures .0) ∙ c .if3 .left
 
 halved-requires : tie.Need-halved-requires
@@ -27,8 +27,8 @@ same-length c = search needs
 
 returns : tie.Need-returns
 returns c =
-    let a = c .before .before .before .before .before .before .before .args in
-    emit-odd khz50 (a .plan .now) (a .state) (a .store .now) (a .symbol .now) (a .input .now) (λ i. (sym (c .before .halved .ensures .0) ∙ c .if1 .taken) i || odd (a .input .now) || odd (a .symbol .now))
+    let a = c .before .before .before .before .before .before .before .before .args in
+    emit-odd khz50 (a .plan .now) (a .profile .now) (a .state) (a .store .now) (a .symbol .now) (a .input .now) (λ i. (sym (c .before .halved .ensures .0) ∙ c .if1 .taken) i || odd (a .input .now) || odd (a .symbol .now))
 
 halved-requires-2 : tie.Need-halved-requires-2
 halved-requires-2 c κs = search needs
@@ -38,8 +38,8 @@ same-length-2 c = search needs
 
 returns-2 : tie.Need-returns-2
 returns-2 c =
-    let a = c .before .before .before .before .before .before .before .before .before .args in
-    emit-odd khz50 (a .plan .now) (a .state) (a .store .now) (a .symbol .now) (a .input .now)
+    let a = c .before .before .before .before .before .before .before .before .before .before .args in
+    emit-odd khz50 (a .plan .now) (a .profile .now) (a .state) (a .store .now) (a .symbol .now) (a .input .now)
     (λ i. even-store (c .before .before) i || (sym (c .before .halved2 .ensures .0) ∙ c .if2 .taken) i || odd (a .symbol .now))
 
 halved-requires-3 : tie.Need-halved-requires-3
@@ -53,8 +53,8 @@ same-length-4 c = search needs
 
 returns-3 : tie.Need-returns-3
 returns-3 c =
-    let a = c .before .before .before .before .before .before .before .before .before .before .before .before .args in
-    emit-odd khz50 (a .plan .now) (a .state) (a .store .now) (a .symbol .now) (a .input .now)
+    let a = c .before .before .before .before .before .before .before .before .before .before .before .before .before .args in
+    emit-odd khz50 (a .plan .now) (a .profile .now) (a .state) (a .store .now) (a .symbol .now) (a .input .now)
     (λ i. even-store (c .before .before .before .before .before) i || even-input (c .before .before .before) i || (sym (c .before .halved3 .ensures .0) ∙ c .if3 .taken) i)
 
 send-requires : tie.Need-send-requires
@@ -69,9 +69,9 @@ same-length-6 c = search needs
 returns-4 : tie.Need-returns-4
 unfolding emitStep
 returns-4 c =
-    let a = c .before .before .before .before .before .before .before .before .before .before .before .before .before .before .before .before .before .before .before .args in
+    let a = c .before .before .before .before .before .before .before .before .before .before .before .before .before .before .before .before .before .before .before .before .args in
     c .before .before .before .before .send .ensures
-    ∙ emit-whole khz50 (a .plan .now) (a .state) (a .store .now) (a .symbol .now) (a .input .now)
+    ∙ emit-whole khz50 (a .plan .now) (a .profile .now) (a .state) (a .store .now) (a .symbol .now) (a .input .now)
     (λ i. even-store (c .before .before .before .before .before .before .before .before .before .before .before .before) i || even-input (c .before .before .before .before .before .before .before .before .before .before) i || even-symbol (c .before .before .before .before .before .before .before) i)
 
 pub emit-spec : {M : Type 1} → statement M

@@ -1,4 +1,4 @@
--- `byteemitter::flush` meets its contract: ground 21, or the step of whole cells. Assumes nothing.
+-- `byteemitter::flush` meets its contract. Ground 21, or the step of whole cells. Assumes nothing.
 use borrow.Author.Needs.{needs}
 use mathlib.Core.Path.{_≡_, sym, _∙_}
 use mathlib.Core.Bool.{false, _||_}
@@ -42,14 +42,20 @@ returns-2 c =
     flush-odd khz50 (a .plan .now) (a .state) (a .store .now) (a .symbol .now)
     (λ i. even-store (c .before .before .before) i || (sym (c .before .halved2 .ensures .0) ∙ c .if2 .taken) i)
 
-array-share-prefix-none : tie.Need-array-share-prefix-none
-array-share-prefix-none c = search needs
+array-share-prefix-no-profile : tie.Need-array-share-prefix-no-profile
+array-share-prefix-no-profile c = search needs
 
 slice-aggregate-send : tie.Need-slice-aggregate-send
 slice-aggregate-send c = search needs
 
+array-share-prefix-no-data : tie.Need-array-share-prefix-no-data
+array-share-prefix-no-data c = search needs
+
+slice-aggregate-send-2 : tie.Need-slice-aggregate-send-2
+slice-aggregate-send-2 c = search needs
+
 send-requires : tie.Need-send-requires
-send-requires c κs = (c .before .before .before .before .before .before .before .halved .ensures .1 (c .before .before .before .before .before .before .if1 .left), none-whole, c .before .before .before .before .halved2 .ensures .1 (c .before .before .before .if2 .left))
+send-requires c κs = (c .before .before .before .before .before .before .before .before .halved .ensures .1 (c .before .before .before .before .before .before .before .if1 .left), none-whole, c .before .before .before .before .before .halved2 .ensures .1 (c .before .before .before .before .if2 .left))
 
 same-length-4 : tie.Need-same-length-4
 same-length-4 c = search needs
@@ -60,10 +66,10 @@ same-length-5 c = search needs
 returns-3 : tie.Need-returns-3
 unfolding flushStep
 returns-3 c =
-    let a = c .before .before .before .before .before .before .before .before .before .before .before .before .before .before .before .before .before .args in
+    let a = c .before .before .before .before .before .before .before .before .before .before .before .before .before .before .before .before .before .before .args in
     c .before .before .before .before .send .ensures
     ∙ flush-whole khz50 (a .plan .now) (a .state) (a .store .now) (a .symbol .now)
-    (λ i. even-store (c .before .before .before .before .before .before .before .before .before .before .before) i || even-symbol (c .before .before .before .before .before .before .before .before) i)
+    (λ i. even-store (c .before .before .before .before .before .before .before .before .before .before .before .before) i || even-symbol (c .before .before .before .before .before .before .before .before .before) i)
 
 pub flush-spec : {M : Type 1} → statement M
 flush-spec =
@@ -76,8 +82,10 @@ flush-spec =
     same-length-2
     same-length-3
     returns-2
-    array-share-prefix-none
+    array-share-prefix-no-profile
     slice-aggregate-send
+    array-share-prefix-no-data
+    slice-aggregate-send-2
     send-requires
     same-length-4
     same-length-5

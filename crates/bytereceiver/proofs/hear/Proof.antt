@@ -2,7 +2,7 @@
 use borrow.Author.Needs.{needs}
 use Prim.Native.Nat.{ℕ, _-_, _≤_}
 use mathlib.Core.Path.{_≡_, refl, sym, ap, _∙_}
-use mathlib.Core.List.{List, _++_}
+use mathlib.Core.List.{List, [], _++_}
 use native.Mathlib.Omega.{arith}
 use lib.ListN.{length, take, drop, replicate, length-append}
 use lib.Seq.{sets, take-at}
@@ -31,7 +31,7 @@ abbrev receiver : tie.Start → Receiver
 receiver g = at (g .args .state) (cellsOf (g .args .store .now))
 
 abbrev arrival : tie.Start → Arrival
-arrival g = arriving (g .args .y .now) (cellsOf (g .args .buffer .now))
+arrival g = arriving [] (g .args .y .now) (cellsOf (g .args .buffer .now))
 
 -- its cells fit the array
 low : (g : tie.Start) → g .args .n ≤ 4096

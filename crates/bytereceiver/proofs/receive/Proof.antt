@@ -17,8 +17,8 @@ same-length-2 c = search needs
 
 returns : tie.Need-returns
 returns c =
-    let a = c .before .before .before .before .before .before .before .before .args in
-    refused-odd khz50 (a .plan .now) (a .state) (a .store .now) (a .symbol .now) (a .buffer .now) (sym (c .before .some-halved .ensures .0) ∙ c .if1 .taken)
+    let a = c .before .before .before .before .before .before .before .before .before .args in
+    refused-odd khz50 (a .plan .now) (a .profile .now) (a .state) (a .store .now) (a .symbol .now) (a .buffer .now) (sym (c .before .some-halved .ensures .0) ∙ c .if1 .taken)
 
 receive-whole-requires : tie.Need-receive-whole-requires
 receive-whole-requires c κs = c .before .before .before .some-halved .ensures .1 (c .before .before .if1 .left)
@@ -31,9 +31,9 @@ same-length-4 c = search needs
 
 returns-2 : tie.Need-returns-2
 returns-2 c =
-    let a = c .before .before .before .before .before .before .before .before .before .before .before .before .before .before .before .args in
+    let a = c .before .before .before .before .before .before .before .before .before .before .before .before .before .before .before .before .args in
     c .before .before .before .before .receive-whole .ensures
-    ∙ left-whole khz50 (a .plan .now) (a .state) (a .store .now) (a .symbol .now) (a .buffer .now) (sym (c .before .before .before .before .before .before .before .before .some-halved .ensures .0) ∙ c .before .before .before .before .before .before .before .if1 .left)
+    ∙ left-whole khz50 (a .plan .now) (a .profile .now) (a .state) (a .store .now) (a .symbol .now) (a .buffer .now) (sym (c .before .before .before .before .before .before .before .before .some-halved .ensures .0) ∙ c .before .before .before .before .before .before .before .if1 .left)
 
 pub receive-spec : {M : Type 1} → statement M
 receive-spec =

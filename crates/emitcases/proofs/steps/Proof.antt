@@ -6,10 +6,10 @@ use Rattle.emitcases.proofs.steps.Statement.{statement}
 use Rattle.emitcases.proofs.steps.Tie as tie
 
 abbrev Inv-loop : tie.InvT-loop
-Inv-loop plan need bytes store₀ symbol₀ run₀ i₀ store symbol run i = i ≤ length bytes
+Inv-loop plan need bytes profile store₀ symbol₀ run₀ i₀ store symbol run i = i ≤ length bytes
 
 abbrev μ-loop : tie.MeasureT-loop
-μ-loop plan need bytes store₀ symbol₀ run₀ i₀ store symbol run i = length bytes - i
+μ-loop plan need bytes profile store₀ symbol₀ run₀ i₀ store symbol run i = length bytes - i
 
 loop-holds : tie.Need-loop-holds Inv-loop μ-loop
 loop-holds c = search needs

@@ -4,11 +4,17 @@ use Rattle.rules.specs.Steps.{flushStep}
 use Rattle.emitter.proofs.flush.Statement.{statement}
 use Rattle.emitter.proofs.flush.Tie as tie
 
-array-share-prefix-none : tie.Need-array-share-prefix-none
-array-share-prefix-none c = search needs
+array-share-prefix-no-profile : tie.Need-array-share-prefix-no-profile
+array-share-prefix-no-profile c = search needs
 
 slice-aggregate-send : tie.Need-slice-aggregate-send
 slice-aggregate-send c = search needs
+
+array-share-prefix-no-data : tie.Need-array-share-prefix-no-data
+array-share-prefix-no-data c = search needs
+
+slice-aggregate-send-2 : tie.Need-slice-aggregate-send-2
+slice-aggregate-send-2 c = search needs
 
 send-requires : tie.Need-send-requires
 send-requires c κs = search needs
@@ -24,4 +30,14 @@ unfolding flushStep
 returns c = c .before .before .before .before .send .ensures
 
 pub flush-spec : {M : Type 1} → statement M
-flush-spec = tie.close (tie.spec array-share-prefix-none slice-aggregate-send send-requires same-length same-length-2 returns)
+flush-spec =
+    tie.close
+    (tie.spec
+    array-share-prefix-no-profile
+    slice-aggregate-send
+    array-share-prefix-no-data
+    slice-aggregate-send-2
+    send-requires
+    same-length
+    same-length-2
+    returns)

@@ -4,10 +4,10 @@ use Rattle.linkcheck.proofs.runs.Statement.{statement}
 use Rattle.linkcheck.proofs.runs.Tie as tie
 
 abbrev Inv-loop : tie.InvT-loop
-Inv-loop plan counts sent₀ heard₀ link₀ left₀ sent heard link left = Unit {0}
+Inv-loop plan profile counts sent₀ heard₀ link₀ left₀ sent heard link left = Unit {0}
 
 abbrev μ-loop : tie.MeasureT-loop
-μ-loop plan counts sent₀ heard₀ link₀ left₀ sent heard link left = left
+μ-loop plan profile counts sent₀ heard₀ link₀ left₀ sent heard link left = left
 
 cast-left : tie.Need-cast-left Inv-loop μ-loop
 cast-left c = search needs

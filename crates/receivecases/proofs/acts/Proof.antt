@@ -4,10 +4,10 @@ use Rattle.receivecases.proofs.acts.Statement.{statement}
 use Rattle.receivecases.proofs.acts.Tie as tie
 
 abbrev Inv-loop : tie.InvT-loop
-Inv-loop count plan sent₀ store₀ line₀ buffer₀ run₀ left₀ sent store line buffer run left = Unit {0}
+Inv-loop count plan profile sent₀ store₀ line₀ buffer₀ run₀ left₀ sent store line buffer run left = Unit {0}
 
 abbrev μ-loop : tie.MeasureT-loop
-μ-loop count plan sent₀ store₀ line₀ buffer₀ run₀ left₀ sent store line buffer run left = left
+μ-loop count plan profile sent₀ store₀ line₀ buffer₀ run₀ left₀ sent store line buffer run left = left
 
 loop-holds : tie.Need-loop-holds Inv-loop μ-loop
 loop-holds c = tt

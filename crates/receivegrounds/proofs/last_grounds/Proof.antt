@@ -25,29 +25,29 @@ abbrev frame : tie.Start → Frame
 frame g = frameOf (g .args .d) (planOf (g .args .plan .now))
 
 abbrev arrival : tie.Start → List ℕ → Arrival
-arrival g b = arriving (take (g .args .width) (g .args .symbol .now)) b
+arrival g b = arriving (g .args .profile .now) (take (g .args .width) (g .args .symbol .now)) b
 
 -- whether a buffer of this length is too short
-said : (c : tie.After-lacks) (b : List ℕ) → length b ≡ c .before .before .before .args .room → shortBuffer (frame (c .before .before .before)) (c .before .before .before .args .state) b ≡ c .lacks .result
+said : (c : tie.After-lacks) (b : List ℕ) → length b ≡ c .before .before .before .before .args .room → shortBuffer (frame (c .before .before .before .before)) (c .before .before .before .before .args .state) b ≡ c .lacks .result
 unfolding shortBuffer warming frameOf
-said c b eb = let g = c .before .before .before in sym (c .lacks .ensures ∙ (λ i. not (ltb (g .args .state .heard) (g .pre .1 i - 1)) && ltb (sym eb i) (g .pre .2 i)))
+said c b eb = let g = c .before .before .before .before in sym (c .lacks .ensures ∙ (λ i. not (ltb (g .args .state .heard) (g .pre .1 i - 1)) && ltb (sym eb i) (g .pre .2 i)))
 
 lacks-requires : tie.Need-lacks-requires
-lacks-requires c κs = let g = c .before .before in omega (arith, g .pre .1, g .pre .0 .deep)
+lacks-requires c κs = let g = c .before .before .before in omega (arith, g .pre .1, g .pre .0 .deep)
 
 returns : tie.Need-returns
-returns c b eb = let g = c .before .before .before .before in ap (answered (frame g) (g .args .state)) (bad-buffer (frame g) (g .args .state) (arrival g b) (said (c .before) b eb ∙ c .if1 .taken))
+returns c b eb = let g = c .before .before .before .before .before in ap (answered (frame g) (g .args .state)) (bad-buffer (frame g) (g .args .state) (arrival g b) (said (c .before) b eb ∙ c .if1 .taken))
 
 cast-j : tie.Need-cast-j
 cast-j c = search needs
 
 slice-aggregate-wrong-cell : tie.Need-slice-aggregate-wrong-cell
-slice-aggregate-wrong-cell c = let g = c .before .before .before .before .before .before .before in sym (length-take-le (g .args .width) (g .args .symbol .now) (g .pre .5))
+slice-aggregate-wrong-cell c = let g = c .before .before .before .before .before .before .before .before in sym (length-take-le (g .args .width) (g .args .symbol .now) (g .pre .6))
 
 wrong-cell-requires : tie.Need-wrong-cell-requires
 wrong-cell-requires c κs =
-    let g = c .before .before .before .before .before .before .before in
-    (g .pre .0 .fits, g .pre .0 .studied, omega (arith, g .pre .3), length-take-le (g .args .width) (g .args .symbol .now) (g .pre .5) ∙ g .pre .4)
+    let g = c .before .before .before .before .before .before .before .before in
+    (g .pre .0 .fits, g .pre .0 .studied, omega (arith, g .pre .4), length-take-le (g .args .width) (g .args .symbol .now) (g .pre .6) ∙ g .pre .5, g .pre .3)
 
 enum-known-k : tie.Need-enum-known-k
 enum-known-k c = search needs
@@ -55,7 +55,7 @@ enum-known-k c = search needs
 returns-2 : tie.Need-returns-2
 unfolding frameOf
 returns-2 c b eb =
-    let g = c .before .before .before .before .before .before .before .before .before .before .before in
+    let g = c .before .before .before .before .before .before .before .before .before .before .before .before in
     ap (answered (frame g) (g .args .state))
     (good-buffer (frame g) (g .args .state) (arrival g b) (said (c .before .before .before .before .before .before .before .before) b eb ∙ c .before .before .before .before .before .before .before .if1 .left) (some (c .before .k .given .0 .0)) (sym (ap placeOf (c .before .k .given .1)) ∙ c .before .before .before .wrong-cell .ensures))
 
@@ -65,7 +65,7 @@ enum-told c = search needs
 returns-3 : tie.Need-returns-3
 unfolding frameOf
 returns-3 c b eb =
-    let g = c .before .before .before .before .before .before .before .before .before .before in
+    let g = c .before .before .before .before .before .before .before .before .before .before .before in
     let pre = g .pre in
     (λ i. Admitted (pre .1 i) (pre .0 .all i) (pre .2 i))
     ∙ ap (answered (frame g) (g .args .state))

@@ -2,7 +2,7 @@
 use borrow.Author.Needs.{needs}
 use Prim.Native.Nat.{ℕ, _-_, _≤_}
 use mathlib.Core.Path.{_≡_, refl, sym, ap, _∙_}
-use mathlib.Core.List.{List, _++_}
+use mathlib.Core.List.{List, [], _++_}
 use native.Mathlib.Omega.{arith}
 use lib.ListN.{length, take, drop, replicate, length-append}
 use lib.Seq.{sets, take-at}
@@ -34,7 +34,7 @@ stored : (c : tie.After-take-in) → c .take-in .last .1 .1 .1 .1 .1 .0 ≡ hear
 stored c =
     let g = c .before .before .before .before .before .before .before .before .before in
     let a = g .args in
-    c .take-in .ensures .0 ∙ store-at (frame g) (at (a .state) (a .store .now)) (arriving (a .symbol .now) (a .buffer .now)) (a .m) _ (g .pre .1 .deep) (part-size (a .n) (low g) ∙ g .pre .1 .all)
+    c .take-in .ensures .0 ∙ store-at (frame g) (at (a .state) (a .store .now)) (arriving [] (a .symbol .now) (a .buffer .now)) (a .m) _ (g .pre .1 .deep) (part-size (a .n) (low g) ∙ g .pre .1 .all)
 
 -- the next state
 next : (c : tie.After-next-state) → c .next-state .result ≡ heardState (frame (c .before .before .before .before .before .before .before .before .before .before .before .before .before)) (c .before .before .before .before .before .before .before .before .before .before .before .before .before .args .state)
@@ -81,7 +81,7 @@ returns : tie.Need-returns
 returns c =
     let g = c .before .before .before .before .before .before .before .before .before .before .before .before .before .before .before in
     let a = g .args in
-    warmed (frame g) (at (a .state) (a .store .now)) (arriving (a .symbol .now) (a .buffer .now)) _ _ (stored (c .before .before .before .before .before .before)) (next (c .before .before)) (said (c .before) ∙ c .if1 .taken)
+    warmed (frame g) (at (a .state) (a .store .now)) (arriving [] (a .symbol .now) (a .buffer .now)) _ _ (stored (c .before .before .before .before .before .before)) (next (c .before .before)) (said (c .before) ∙ c .if1 .taken)
 
 array-share-prefix-x : tie.Need-array-share-prefix-x
 array-share-prefix-x c = omega (arith, count (c .before .before .before .before .before .before), length-append (c .before .before .before .before .before .before .take-in .last .1 .1 .1 .1 .1 .1 .0) (drop (c .before .before .before .before .before .before .before .before .before .before .before .before .before .before .before .args .n) (replicate capacity 0)))
@@ -112,7 +112,7 @@ returns-2 c =
     let a = g .args in
     let w = g .pre .1 in
     let v = at (a .state) (a .store .now) in
-    let s = arriving (a .symbol .now) (a .buffer .now) in
+    let s = arriving [] (a .symbol .now) (a .buffer .now) in
     let x = c .before .before .before .before .before .before .before .before .before .before .before in
     data-handed (frame g) v s _ _ (stored x) (next (c .before .before .before .before .before .before .before)) (said (c .before .before .before .before .before .before) ∙ c .before .before .before .before .before .if1 .left) (a .nd) _ (w .number)
     (c .before .before .take-data .ensures

@@ -41,9 +41,9 @@ same-length-2 c = search needs
 
 returns : tie.Need-returns
 returns c =
-    let a = c .before .before .before .before .before .before .before .before .before .before .before .before .before .before .before .before .before .args in
+    let a = c .before .before .before .before .before .before .before .before .before .before .before .before .before .before .before .before .before .before .args in
     heard-over (c .before .before .before .before .before .before .before .before .before .before .before .at-most .ensures .1) (c .before .before .before .before .before .before .before .before .at-most3 .ensures .1) (c .before .before .before .before .before .before .before .before .before .before .at-most2 .ensures .1 .same)
-    (receiveStep khz50 (a .plan .now) (record { phase = a .given .phase; heard = a .given .heard }))
+    (receiveStep khz50 (a .plan .now) (a .profile .now) (record { phase = a .given .phase; heard = a .given .heard }))
     (c .before .before .before .before .receive .ensures)
 
 pub receive-spec : {M : Type 1} → statement M

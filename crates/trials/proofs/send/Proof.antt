@@ -36,7 +36,7 @@ same-length-2 c = search needs
 
 returns : tie.Need-returns
 returns c =
-    let a = c .before .before .before .before .before .before .before .before .before .before .before .before .before .before .before .before .args in
+    let a = c .before .before .before .before .before .before .before .before .before .before .before .before .before .before .before .before .before .args in
     rw (c .before .before .before .before .before .before .before .if1 .taken)
     (sent-over (c .before .before .before .before .before .before .before .before .before .before .at-most .ensures .1) (c .before .before .before .before .before .before .before .before .at-most2 .ensures .1) (refl {a = a .cells .now})
     (λ s x y. flushStep khz50 (a .plan .now) (record { phase = a .given .phase }) s y)
@@ -71,10 +71,10 @@ same-length-4 c = search needs
 
 returns-2 : tie.Need-returns-2
 returns-2 c =
-    let a = c .before .before .before .before .before .before .before .before .before .before .before .before .before .before .before .before .before .before .args in
+    let a = c .before .before .before .before .before .before .before .before .before .before .before .before .before .before .before .before .before .before .before .args in
     rw (c .before .before .before .before .before .before .before .before .before .if1 .left)
     (sent-over (c .before .before .before .before .before .before .before .before .before .before .before .before .at-most .ensures .1) (c .before .before .before .before .before .before .before .before .before .before .at-most2 .ensures .1) (c .before .before .before .before .before .before .before .before .at-most3 .ensures .1 .same)
-    (emitStep khz50 (a .plan .now) (record { phase = a .given .phase }))
+    (emitStep khz50 (a .plan .now) (a .profile .now) (record { phase = a .given .phase }))
     (c .before .before .before .before .emit .ensures))
 
 pub send-spec : {M : Type 1} → statement M

@@ -11,10 +11,10 @@ use Rattle.samples.proofs.inputs.draw.Statement.{statement}
 use Rattle.samples.proofs.inputs.draw.Tie as tie
 
 abbrev Inv-loop : tie.InvT-loop
-Inv-loop seed n cells₀ end i₀ cells i = (i ≤ end) × (length cells ≡ length cells₀) × (cells ≡ filled (dataCell seed) i cells₀)
+Inv-loop seed n limits cells₀ end i₀ cells i = (i ≤ end) × (length cells ≡ length cells₀) × (cells ≡ filled (dataCell seed limits) i cells₀)
 
 abbrev μ-loop : tie.MeasureT-loop
-μ-loop seed n cells₀ end i₀ cells i = end - i
+μ-loop seed n limits cells₀ end i₀ cells i = end - i
 
 at-most-requires : tie.Need-at-most-requires Inv-loop μ-loop
 at-most-requires c κs = search needs

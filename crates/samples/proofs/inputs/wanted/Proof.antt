@@ -25,7 +25,7 @@ cell-requires c κs = search needs
 returns-3 : tie.Need-returns-3
 returns-3 c =
     simp (lt-leb _ _ (c .before .before .before .before .if1 .left), sym (c .before .before .before .is-flush .ensures) ∙ c .before .before .if2 .left)
-    (c .cell .ensures ∙ ap (λ (s : ℕ). dataCell s (c .before .before .before .before .before .args .at)) (c .before .seed .ensures))
+    (c .cell .ensures ∙ ap (λ (s : ℕ). dataCell s (c .before .before .before .before .before .before .args .limits .now) (c .before .before .before .before .before .before .args .place)) (c .before .seed .ensures))
 
 pub wanted-spec : {M : Type 1} → statement M
 wanted-spec =

@@ -1,0 +1,4 @@
+pub mod BitLaws
+pub mod FillLaws
+pub mod Streams
+pub mod Windows
