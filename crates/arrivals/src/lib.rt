@@ -8,7 +8,7 @@ ghost use Rattle.counting.specs.Search.{bit, count, lowest};
 ghost use Rattle.counting.specs.Answer.{placeOf};
 ghost use Rattle.rules.specs.declared.Finding.the-variants.{Fine};
 ghost use Rattle.rules.specs.Plan.{planOf};
-ghost use Rattle.rules.specs.Fits.{Fits};
+ghost use Rattle.rules.specs.Fits.{Fits, capacity};
 ghost use Rattle.rules.specs.Frame.{frameOf, cells, spot, lineCells};
 ghost use Rattle.rules.specs.Loads.{ground25, limitAt};
 ghost use Rattle.rules.specs.Receive.{wrongCell};
@@ -67,7 +67,7 @@ fn cell_fits(limit: u16, mark: u16, x: u16) -> u16
 
 // Whether all cells of the symbol fit under one limit.
 fn all_fit(limit: u16, marks: &[u16], symbol: &[u16]) -> bool
-    requires { ⌜ (length (now symbol) ≤ 4096) × (length (now symbol) ≤ length (now marks)) ⌝ }
+    requires { ⌜ (length (now symbol) ≤ capacity) × (length (now symbol) ≤ length (now marks)) ⌝ }
     ensures { λ r. ⌜ (r ≡ true → (k : ℕ) → k < length (now (symbol .entry)) → allowed limit (getD (now (marks .entry)) k 0) (getD (now (symbol .entry)) k 0) ≡ true) ⌝ }
 {
     let mut n: u16 = 0;
@@ -81,7 +81,7 @@ fn all_fit(limit: u16, marks: &[u16], symbol: &[u16]) -> bool
 
 // Whether all loads are the same, and all cells fit under their limit: then no limit is looked up.
 fn fit_one_load(profile: &[u8], marks: &[u16], symbol: &[u16]) -> bool
-    requires { ⌜ (length (now symbol) ≤ 4096) × (length (now symbol) ≤ length (now profile)) × (length (now symbol) ≤ length (now marks)) ⌝ }
+    requires { ⌜ (length (now symbol) ≤ capacity) × (length (now symbol) ≤ length (now profile)) × (length (now symbol) ≤ length (now marks)) ⌝ }
     ensures { λ r. ⌜ (r ≡ true → (k : ℕ) → k < length (now (symbol .entry)) → allowed (limitAt (now (profile .entry)) k) (getD (now (marks .entry)) k 0) (getD (now (symbol .entry)) k 0) ≡ true) ⌝ }
 {
     let range = profiles::load_range(profile);
@@ -96,7 +96,7 @@ fn fit_one_load(profile: &[u8], marks: &[u16], symbol: &[u16]) -> bool
 
 // How many cells of the symbol fit.
 fn fitting_cells(limits: &[u16], marks: &[u16], symbol: &[u16]) -> u16
-    requires { ⌜ (length (now symbol) ≤ 4096) × (length (now symbol) ≤ length (now limits)) × (length (now symbol) ≤ length (now marks)) ⌝ }
+    requires { ⌜ (length (now symbol) ≤ capacity) × (length (now symbol) ≤ length (now limits)) × (length (now symbol) ≤ length (now marks)) ⌝ }
     ensures { λ r. ⌜ r ≡ count (allowedAt (now (limits .entry)) (now (marks .entry)) (now (symbol .entry))) (length (now (symbol .entry))) ⌝ }
 {
     let mut n: u16 = 0;
@@ -110,7 +110,7 @@ fn fitting_cells(limits: &[u16], marks: &[u16], symbol: &[u16]) -> u16
 
 // The lowest subcarrier whose cell does not fit, by looking at one after the other.
 fn search_wrong(limits: &[u16], marks: &[u16], symbol: &[u16]) -> Found
-    requires { ⌜ (length (now symbol) ≤ 4096) × (length (now symbol) ≤ length (now limits)) × (length (now symbol) ≤ length (now marks)) ⌝ }
+    requires { ⌜ (length (now symbol) ≤ capacity) × (length (now symbol) ≤ length (now limits)) × (length (now symbol) ≤ length (now marks)) ⌝ }
     ensures { λ r. ⌜ placeOf r ≡ lowest (λ k. not (allowedAt (now (limits .entry)) (now (marks .entry)) (now (symbol .entry)) k)) (length (now (symbol .entry))) ⌝ }
 {
     let mut place: usize = 0;
@@ -125,7 +125,7 @@ fn search_wrong(limits: &[u16], marks: &[u16], symbol: &[u16]) -> Found
 
 // The lowest subcarrier whose cell does not fit.
 fn first_wrong(limits: &[u16], marks: &[u16], symbol: &[u16]) -> Found
-    requires { ⌜ (length (now symbol) ≤ 4096) × (length (now symbol) ≤ length (now limits)) × (length (now symbol) ≤ length (now marks)) ⌝ }
+    requires { ⌜ (length (now symbol) ≤ capacity) × (length (now symbol) ≤ length (now limits)) × (length (now symbol) ≤ length (now marks)) ⌝ }
     ensures { λ r. ⌜ placeOf r ≡ lowest (λ k. not (allowedAt (now (limits .entry)) (now (marks .entry)) (now (symbol .entry)) k)) (length (now (symbol .entry))) ⌝ }
 {
     let n = fitting_cells(limits, marks, symbol);
