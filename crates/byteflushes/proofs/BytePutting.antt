@@ -5,7 +5,8 @@ use mathlib.Core.List.{List}
 use native.Mathlib.Omega.{arith}
 use lib.ListN.{length, getD}
 use Rattle.rules.specs.Places.{emitterDelay, placesBefore}
-use Rattle.flushes.specs.Placeholders.{symbolsUntil, withPlaceholder, withPlaceholders}
+use Rattle.pattern.specs.Until.{symbolsUntil}
+use Rattle.flushes.specs.Placeholders.{withPlaceholder, withPlaceholders}
 use Rattle.flushes.proofs.Putting.{Putting, putting-first, putting-length, putting-fits, putting-next, putting-all}
 use Rattle.bytecells.specs.Octets.{cellsOf, bytesOf, Whole}
 use Rattle.bytecells.proofs.OctetLaws.{whole-length, cells-bytes}

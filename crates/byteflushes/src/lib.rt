@@ -40,7 +40,7 @@ fn put_placeholders(m: usize, base: usize, kc: &[u16], store: &mut [u8])
     let mut at = 0;
     let mut delay = 0;
     while p < kc.len() {
-        let i = flushes::symbols_until(base, kc[p]);
+        let i = pattern::symbols_until(base, kc[p]);
         put_placeholder(store, at, delay, i);
         at = at + delay;
         let next = flushes::next_delay(delay, m);

@@ -9,7 +9,7 @@ use lib.ListN.{length}
 use Rattle.counting.specs.Search.{when, isNone}
 use Rattle.rules.specs.declared.Device.{Device}
 use Rattle.rules.specs.declared.Finding.the-variants.{Fine}
-use Rattle.rules.specs.Plan.{planOf, chain}
+use Rattle.rules.specs.Plan.{planOf, chain, entry, isPlc}
 use Rattle.rules.specs.Grounds.{ground?, badLength, pilotsMax, chainGrounds, grounds1to5, grounds6to15, grounds1to15}
 use Rattle.rules.proofs.Findings.{not-fine, both-fine, when-fine}
 use Rattle.records.proofs.RecordLaws as record-laws
@@ -31,11 +31,19 @@ module _ (d : Device) (s : List ℕ) (fine : grounds1to15 d s ≡ Fine) where
   unfolding grounds1to5
   chain-stages = both-fine (ground? 1 (when (badLength s) 0)) (chainGrounds d (length s / 8) 0 (chain s)) (stages .0)
 
+  pub good-length : badLength s ≡ false
+  good-length = when-fine 1 0 (badLength s) (chain-stages .0)
+
   pub long : 8 ≤ length s
-  long = record-laws.length-fine s (when-fine 1 0 (badLength s) (chain-stages .0)) .some
+  long = record-laws.length-fine s good-length .some
 
   some-record : 0 < length s / 8
   some-record = omega (arith, long)
+
+  -- record 0 is of kind 1
+  pub plc-record : isPlc (entry s 0) ≡ true
+  unfolding chain
+  plc-record = chain-laws.first-fine d s (length s / 8) some-record (chain-stages .1) .1
 
   pub plc-in : (d .lowPlc ≤ planOf s .plc) × (planOf s .plc ≤ d .highPlc)
   unfolding planOf chain

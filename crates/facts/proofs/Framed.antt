@@ -57,7 +57,12 @@ module _ (d : Device) (p : Plan) where
   unfolding ranked active rank-of
   ranked-is k l = λ i. ((lt-ltb k (d .subcarriers) l i && not (excluded p k)) && not (inPlc d p k)) && not (continuous d p k)
 
-  by-rank : ByRank (frameOf d p)
+  -- neither excluded, PLC nor continuous
+  pub free-ranked : (k : ℕ) → k < d .subcarriers → excluded p k ≡ false → inPlc d p k ≡ false → continuous d p k ≡ false → ranked d p k ≡ true
+  unfolding rank-of
+  free-ranked k l a b c = ranked-is k l ∙ (λ i. rank-of (a i) (b i) (c i))
+
+  pub by-rank : ByRank (frameOf d p)
   unfolding frameOf role
   by-rank = record {
     role-is = λ j k l h. role-is (excluded p k) (inPlc d p k) (continuous d p k) (scatteredAt d p j k) (sym (ranked-is k l) ∙ h);

@@ -26,8 +26,10 @@ use Rattle.spots.specs.Tied.{Turning}
 use Rattle.spots.proofs.Plans.{turning-of}
 use Rattle.places.proofs.Kept.{start-grow, joined-length}
 use Rattle.places.proofs.Sizes.{emitter-places-are}
+use Rattle.pattern.specs.Until.{symbolsUntil}
+use Rattle.pattern.proofs.Once.{once}
 use Rattle.flushes.specs.Spotted.{Spotted}
-use Rattle.flushes.specs.Placeholders.{symbolsUntil, withPlaceholder, withPlaceholders}
+use Rattle.flushes.specs.Placeholders.{withPlaceholder, withPlaceholders}
 use Rattle.flushes.proofs.Putting.{length-with}
 
 -- ---- filler
@@ -138,14 +140,6 @@ flush-cell F j p hp =
     by-test (held F j p)
     (λ q. rw q (input-held F j flush p hp q))
     (λ q. rw q (input-data F j flush p hp q ∙ getD-replicate (dataCount F j) (count (isData F j) p) filler 0 (count-lt (isData F j) p (cells F) hp (ap not q))))
-
--- the pattern stands on subcarrier k once in 128 symbols
-once : (base k i : ℕ) → i < phases → eqb (k % phases) ((base + i) % phases) ≡ eqb i (symbolsUntil base k)
-unfolding symbolsUntil
-once base k i h =
-    by-cases (ℕ-discrete i (symbolsUntil base k))
-    (λ e. rw (eq-eqb i (symbolsUntil base k) e, eq-eqb (k % phases) ((base + i) % phases) (omega arith)) refl)
-    (λ e. rw (ne-eqb i (symbolsUntil base k) e, ne-eqb (k % phases) ((base + i) % phases) (λ z. e (omega arith))) refl)
 
 module _ (F : Frame) (base : ℕ) (t : Turning F base) (j : ℕ) (fits : F .depth ≤ F .phases) (pos : 0 < F .depth) where
   -- place i of cell p is sent at phase j + i

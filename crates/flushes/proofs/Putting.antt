@@ -12,7 +12,8 @@ use Rattle.counting.specs.Search.{sum}
 use Rattle.rules.specs.Frame.{placeholder}
 use Rattle.rules.specs.Places.{emitterDelay, placesBefore}
 use Rattle.places.proofs.Kept.{start-suc, start-grow}
-use Rattle.flushes.specs.Placeholders.{symbolsUntil, withPlaceholder, withPlaceholders}
+use Rattle.pattern.specs.Until.{symbolsUntil}
+use Rattle.flushes.specs.Placeholders.{withPlaceholder, withPlaceholders}
 
 -- ---- lengths
 

@@ -1,16 +1,12 @@
 -- The placeholders among the places of a fresh emitter's store: place i of a cell is sent i symbols on. Assumes nothing.
-use Prim.Native.Nat.{ℕ, zero, suc, _+_, _-_, _%_}
+use Prim.Native.Nat.{ℕ, zero, suc, _+_}
 use mathlib.Core.List.{List}
 use lib.Dec.{ltb}
 use lib.ListN.{getD, set}
 use Rattle.counting.specs.Search.{pick}
-use Rattle.rules.specs.Device.{phases}
 use Rattle.rules.specs.Frame.{placeholder}
 use Rattle.rules.specs.Places.{emitterDelay, placesBefore}
-
--- how many symbols on the pattern stands on subcarrier k, if now it stands on those that are base modulo 128
-unfoldable pub symbolsUntil : ℕ → ℕ → ℕ
-symbolsUntil base k = (k + (phases - base % phases)) % phases
+use Rattle.pattern.specs.Until.{symbolsUntil}
 
 -- the store s with place i of the n places from `at` on a placeholder, if there is such a place
 unfoldable pub withPlaceholder : ℕ → ℕ → ℕ → List ℕ → List ℕ

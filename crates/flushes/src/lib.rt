@@ -12,12 +12,8 @@ ghost use Rattle.rules.specs.Frame.{frameOf, filler};
 ghost use Rattle.rules.specs.Places.{emitterDelay, placesBefore};
 ghost use Rattle.rules.specs.Store.{emitterPlaces, freshStore};
 ghost use Rattle.flushes.specs.Spotted.{Spotted};
-ghost use Rattle.flushes.specs.Placeholders.{symbolsUntil, withPlaceholder, withPlaceholders};
-use counting::wide;
+ghost use Rattle.flushes.specs.Placeholders.{withPlaceholder, withPlaceholders};
 use rules::Device;
-
-// Phases are 0 to 127.
-const PHASES: usize = 128;
 
 // The mark of a scattered placeholder.
 const PLACEHOLDER: u16 = 0x8000;
@@ -35,13 +31,6 @@ pub fn put_filler(store: &mut [u16], n: usize)
         store[i] = FILLER;
         i += 1;
     }
-}
-
-// How many symbols on the pattern stands on subcarrier k, if now it stands on those that are `base` modulo 128.
-pub fn symbols_until(base: usize, k: u16) -> usize
-    ensures { λ r. ⌜ r ≡ symbolsUntil base k ⌝ }
-{
-    (wide(k) + (PHASES - base % PHASES)) % PHASES
 }
 
 // The delay of the next cell, at depth m.
@@ -72,7 +61,7 @@ fn put_placeholders(m: usize, base: usize, kc: &[u16], store: &mut [u16])
     let mut at = 0;
     let mut delay = 0;
     while p < kc.len() {
-        let i = symbols_until(base, kc[p]);
+        let i = pattern::symbols_until(base, kc[p]);
         put_placeholder(store, at, delay, i);
         at = at + delay;
         let next = next_delay(delay, m);

@@ -33,7 +33,7 @@ good-length d s e h = sym (ap (λ (b : Bool). ground? 1 (when b 0) else chainGro
 
 module _ (d : Device) where
   -- record 0 of a chain with no ground is of kind 1, and no ground holds in it
-  first-fine : (s : List ℕ) (r : ℕ) → 0 < r → chainGrounds d r 0 (chainFrom s r r 0) ≡ Fine → (recordGrounds d r 0 (entry s 0) ≡ Fine) × (isPlc (entry s 0) ≡ true)
+  pub first-fine : (s : List ℕ) (r : ℕ) → 0 < r → chainGrounds d r 0 (chainFrom s r r 0) ≡ Fine → (recordGrounds d r 0 (entry s 0) ≡ Fine) × (isPlc (entry s 0) ≡ true)
   unfolding chainGrounds chainFrom entry
   first-fine s zero l f = absurd (omega arith)
   first-fine s (suc r) l f =

@@ -62,6 +62,10 @@ pub record Beside (d : Device) (l x : ℕ) : Type 0 where
   pub to : x < l + d .plcWidth + d .plcMargin
   pub off : (x < l) ⊎ (l + d .plcWidth ≤ x)
 
+-- x stands at one of the four distances, below L or above the last PLC subcarrier
+abbrev pub Sided : Device → ℕ → ℕ → Type 0
+Sided d l x = ((n : ℕ) × (n < 4) × (x ≡ l - away d n)) ⊎ ((n : ℕ) × (n < 4) × (x ≡ l + d .plcWidth - 1 + away d n))
+
 module _ (d : Device) (l : ℕ) (fits : Fits d) (low : d .lowPlc ≤ l) where
   under : (i : ℕ) → i < 4 → Beside d l (l - away d i)
   under i h =
@@ -73,19 +77,27 @@ module _ (d : Device) (l : ℕ) (fits : Fits d) (low : d .lowPlc ≤ l) where
       let n = fits .near i h in
       record { from = omega (arith, fits .plcSome); to = omega (arith, fits .plcSome); off = inr (omega (arith, fits .plcSome)) }
 
-  pub beside : (i : ℕ) → i < 8 → Beside d l (getD (predefined d l) i 0)
-  beside i h = subst (λ (xs : List ℕ). Beside d l (getD xs i 0)) (eight-is d l fits) (go i h)
+  -- the pilot at place i of the eight
+  pub sided : (i : ℕ) → i < 8 → Sided d l (getD (predefined d l) i 0)
+  sided i h = subst (λ (xs : List ℕ). Sided d l (getD xs i 0)) (eight-is d l fits) (go i h)
     where
-      go : (j : ℕ) → j < 8 → Beside d l (getD (eight l (l + d .plcWidth - 1) (away d 0) (away d 1) (away d 2) (away d 3)) j 0)
-      go zero h = under 3 (omega arith)
-      go (suc zero) h = under 2 (omega arith)
-      go (suc (suc zero)) h = under 1 (omega arith)
-      go (suc (suc (suc zero))) h = under 0 (omega arith)
-      go (suc (suc (suc (suc zero)))) h = over 0 (omega arith)
-      go (suc (suc (suc (suc (suc zero))))) h = over 1 (omega arith)
-      go (suc (suc (suc (suc (suc (suc zero)))))) h = over 2 (omega arith)
-      go (suc (suc (suc (suc (suc (suc (suc zero))))))) h = over 3 (omega arith)
+      go : (j : ℕ) → j < 8 → Sided d l (getD (eight l (l + d .plcWidth - 1) (away d 0) (away d 1) (away d 2) (away d 3)) j 0)
+      go zero h = inl (3, omega arith, refl)
+      go (suc zero) h = inl (2, omega arith, refl)
+      go (suc (suc zero)) h = inl (1, omega arith, refl)
+      go (suc (suc (suc zero))) h = inl (0, omega arith, refl)
+      go (suc (suc (suc (suc zero)))) h = inr (0, omega arith, refl)
+      go (suc (suc (suc (suc (suc zero))))) h = inr (1, omega arith, refl)
+      go (suc (suc (suc (suc (suc (suc zero)))))) h = inr (2, omega arith, refl)
+      go (suc (suc (suc (suc (suc (suc (suc zero))))))) h = inr (3, omega arith, refl)
       go (suc (suc (suc (suc (suc (suc (suc (suc j)))))))) h = absurd (omega arith)
+
+  pub beside : (i : ℕ) → i < 8 → Beside d l (getD (predefined d l) i 0)
+  beside i h = go (sided i h)
+    where
+      go : Sided d l (getD (predefined d l) i 0) → Beside d l (getD (predefined d l) i 0)
+      go (inl (n, few, e)) = subst (Beside d l) (sym e) (under n few)
+      go (inr (n, few, e)) = subst (Beside d l) (sym e) (over n few)
 
 -- of the first n of a list: none, one more, and all
 pub one-none : (xs : List ℕ) (k : ℕ) → oneOf k (take 0 xs) ≡ false

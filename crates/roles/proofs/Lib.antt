@@ -1,3 +1,4 @@
 pub mod Eight
+pub mod Distances
 pub mod Testing
 pub mod Fitting

@@ -59,7 +59,7 @@ pub fn predefined_pilots(l: u16) -> [u16; 8]
 }
 
 // k is one of the pilots.
-fn is_among(pilots: [u16; 8], k: usize) -> bool
+pub fn is_among(pilots: [u16; 8], k: usize) -> bool
     ensures { λ r. ⌜ r ≡ oneOf k pilots ⌝ }
 {
     let mut n: usize = 0;

@@ -1,11 +1,11 @@
--- `flushes::symbols_until` meets its contract. Assumes nothing.
+-- `pattern::symbols_until` meets its contract. Assumes nothing.
 use borrow.Author.Needs.{needs}
 use Prim.Native.Nat.{ℕ, _+_, _-_, _%_}
 use mathlib.Core.Path.{ap}
 use Rattle.rules.specs.Device.{phases}
-use Rattle.flushes.specs.Placeholders.{symbolsUntil}
-use Rattle.flushes.proofs.symbols_until.Statement.{statement}
-use Rattle.flushes.proofs.symbols_until.Tie as tie
+use Rattle.pattern.specs.Until.{symbolsUntil}
+use Rattle.pattern.proofs.symbols_until.Statement.{statement}
+use Rattle.pattern.proofs.symbols_until.Tie as tie
 
 wide-requires : tie.Need-wide-requires
 wide-requires c κs = search needs

@@ -1,0 +1,4 @@
+pub mod Firsts
+pub mod Phases
+pub mod Answers
+pub mod Truth
