@@ -1,10 +1,11 @@
 #!/usr/bin/env python3
-"""A second model of the plan rules, written from the papers alone: 01, and requests 02 and 05.
+"""A second model of the plan rules, written from the papers alone: 01, and requests 02, 05 and 08.
 
 It judges a plan (any bytes) by grounds 1 to 15, in checking order, knows the
-roles of the subcarriers, and tries one more excluded range (change request 05).
-It is kept plain on purpose: it is compared with the head end's own program, so
-it must be easy to hold against the paper.
+roles of the subcarriers, tries one more excluded range (change request 05) and
+gives the reason of a role (change request 08).  It is kept plain on purpose: it
+is compared with the head end's own program, so it must be easy to hold against
+the paper.
 
     python3 tests/model.py < plan
 
@@ -329,11 +330,24 @@ class Model:
         return ('ok', len(self.ranks_of(p)))
 
     def role(self, data, k, phase):
+        p = self.asked(data, k, phase)
+        return p if isinstance(p, tuple) else self.role_of(p, k, phase)
+
+    def asked(self, data, k, phase):
+        """A refusal by 1 to 15, then by 16, or the Map of a good plan."""
         p = self.judge(data)
         if isinstance(p, tuple):
             return p
-        if not 0 <= k <= self.limits.last_subcarrier or not 0 <= phase < PHASES:
+        if self.out_of_range(k, phase):
             return ('refused', 16, 0)
+        return p
+
+    def out_of_range(self, k, phase):
+        """Ground 16, of a subcarrier and a phase."""
+        return not 0 <= k <= self.limits.last_subcarrier or not 0 <= phase < PHASES
+
+    def role_of(self, p, k, phase):
+        """The role on a good plan: the first that applies."""
         if p.excluded[k]:
             return 'excluded'
         if self.is_plc(p, k):
@@ -383,6 +397,59 @@ class Model:
             return ('refused', 4, len(data) // self.limits.record_bytes)
         return self.judge(self.copy(data, chain, first, last))
 
+    # --- the reason of a role (change request 08) -----------------------------
+
+    def why(self, data, k, phase):
+        """The refusal that the role has, or (role, kind of reason, number)."""
+        p = self.asked(data, k, phase)
+        if isinstance(p, tuple):
+            return p
+        role = self.role_of(p, k, phase)
+        return (role, *self.reason(p, self.chain(data), role, k))
+
+    def reason(self, p, chain, role, k):
+        """A record, a predefined distance below or above, or the one phase."""
+        if role == 'excluded':
+            return ('record', self.covering_record(chain, k))
+        if role == 'plc':
+            return ('record', 0)
+        if role == 'continuous' and k in self.predefined(p.l):
+            return self.distance(p, k)
+        if role == 'continuous':
+            return ('record', self.naming_record(chain, k))
+        return ('phase', self.scattered_phase(p, k))
+
+    def covers(self, r, k):
+        """The record excludes subcarrier k."""
+        return r.kind == 2 and r.first <= k <= r.second
+
+    def names(self, r, k):
+        """The record makes subcarrier k a pilot."""
+        return r.kind == 3 and r.first == k
+
+    def covering_record(self, chain, k):
+        """The first on the chain that excludes subcarrier k."""
+        return next(i for i, r in chain if self.covers(r, k))
+
+    def naming_record(self, chain, k):
+        """The first on the chain that makes subcarrier k a pilot."""
+        return next(i for i, r in chain if self.names(r, k))
+
+    def distance(self, p, k):
+        """How far a predefined pilot stands below L, or above L+7."""
+        if k < p.l:
+            return ('below', p.l - k)
+        return ('above', k - (p.l + self.limits.plc_width - 1))
+
+    def scattered_phase(self, p, k):
+        """The one phase at which the role is scattered."""
+        phases = [phase for phase in range(PHASES) if self.role_of(p, k, phase) == 'scattered']
+        assert len(phases) == 1, 'scattered at %d phases: %d' % (len(phases), k)
+        return phases[0]
+
+    def why_line(self, data, k, phase):
+        return '%s %s %d' % self.why(data, k, phase)
+
 
 def verdict(data, limits=Limits()):
     """('ok', N_I) or ('refused', number, place)."""
@@ -423,6 +490,11 @@ def trial_line(data, first, last, limits=Limits()):
     """The line that trycheck prints, without its newline."""
     model = Model(limits)
     return model.line_of(model.trial(data, first, last))
+
+
+def why_line(data, k, phase, limits=Limits()):
+    """The line that whycheck prints, without its newline."""
+    return Model(limits).why_line(data, k, phase)
 
 
 if __name__ == '__main__':

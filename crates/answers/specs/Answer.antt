@@ -22,6 +22,8 @@ use Rattle.rules.specs.declared.SendAnswer.{SendAnswer}
 use Rattle.rules.specs.declared.SendAnswer.the-variants as a-send
 use Rattle.rules.specs.declared.ReceiveAnswer.{ReceiveAnswer}
 use Rattle.rules.specs.declared.ReceiveAnswer.the-variants as a-receive
+use Rattle.reasons.specs.declared.WhyAnswer.{WhyAnswer}
+use Rattle.reasons.specs.declared.WhyAnswer.the-variants as a-why
 use Rattle.modulator.specs.declared.ModulateAnswer.{ModulateAnswer}
 use Rattle.modulator.specs.declared.ModulateAnswer.the-variants as a-modulate
 use Rattle.answers.specs.declared.Told.{Told}
@@ -68,6 +70,20 @@ toldVerdict (a-verdict.Refused n p) = refusal n p
 abbrev pub toldRole : RoleAnswer → Told
 toldRole (a-role.Is r) = valued (roleNumber r)
 toldRole (a-role.Refused n p) = refusal n p
+
+-- a role with its reason (request 08): the value says which of seven, the place is its record or distance, the phase its phase
+abbrev pub reasoned : ℕ → ℕ → ℕ → Told
+reasoned v p j = record { number = 0; place = p; phase = j; heard = 0; value = v }
+
+abbrev pub toldWhy : WhyAnswer → Told
+toldWhy (a-why.ExcludedBy i) = reasoned 1 i 0
+toldWhy (a-why.PlcBy i) = reasoned 2 i 0
+toldWhy (a-why.PilotBelow x) = reasoned 3 x 0
+toldWhy (a-why.PilotAbove x) = reasoned 4 x 0
+toldWhy (a-why.PilotBy i) = reasoned 5 i 0
+toldWhy (a-why.ScatteredOnly q) = reasoned 6 0 q
+toldWhy (a-why.DataBut q) = reasoned 7 0 q
+toldWhy (a-why.Refused n p) = refusal n p
 
 abbrev pub toldCount : CountAnswer → Told
 toldCount (a-count.Count n) = valued n

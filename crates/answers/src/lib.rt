@@ -4,8 +4,9 @@ ghost use mathlib.Core.Path.{_≡_};
 ghost use Prim.Native.Nat.{_+_, _≤_};
 ghost use lib.ListN.{length};
 ghost use lib.Seq.{sets};
-ghost use Rattle.answers.specs.Answer.{four, written, roleNumber, valued, refusal, toldVerdict, toldRole, toldCount, toldStart, toldListen, toldSend, toldReceive, toldModulate};
+ghost use Rattle.answers.specs.Answer.{four, written, roleNumber, valued, refusal, reasoned, toldVerdict, toldRole, toldWhy, toldCount, toldStart, toldListen, toldSend, toldReceive, toldModulate};
 use modulator::ModulateAnswer;
+use reasons::WhyAnswer;
 use rules::CountAnswer;
 use rules::ListenAnswer;
 use rules::ReceiveAnswer;
@@ -78,6 +79,34 @@ pub fn told_role(a: RoleAnswer) -> Told
     match a {
         RoleAnswer::Is(r) => valued(role_number(r)),
         RoleAnswer::Refused(g, place) => refusal(g, place),
+    }
+}
+
+// A role with its reason: the value says which, the place is its record or distance, the phase its phase.
+fn reasoned(value: u32, place: u32, phase: u32) -> Told
+    ensures { λ r. ⌜ r ≡ reasoned value place phase ⌝ }
+{
+    Told {
+        number: 0,
+        place,
+        phase,
+        heard: 0,
+        value,
+    }
+}
+
+pub fn told_why(a: WhyAnswer) -> Told
+    ensures { λ r. ⌜ r ≡ toldWhy a ⌝ }
+{
+    match a {
+        WhyAnswer::ExcludedBy(i) => reasoned(1, i, 0),
+        WhyAnswer::PlcBy(i) => reasoned(2, i, 0),
+        WhyAnswer::PilotBelow(x) => reasoned(3, x, 0),
+        WhyAnswer::PilotAbove(x) => reasoned(4, x, 0),
+        WhyAnswer::PilotBy(i) => reasoned(5, i, 0),
+        WhyAnswer::ScatteredOnly(q) => reasoned(6, 0, q),
+        WhyAnswer::DataBut(q) => reasoned(7, 0, q),
+        WhyAnswer::Refused(g, place) => refusal(g, place),
     }
 }
 

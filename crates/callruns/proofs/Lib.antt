@@ -3,3 +3,4 @@ pub mod Modulated
 pub mod Zeros
 pub mod Warming
 pub mod Calls
+pub mod WhyReads

@@ -35,9 +35,24 @@ use Rattle.rules.specs.Receive as receive
 use Rattle.rules.specs.Receive.{Receiver, Arrival, Receiving, Listening, listens, turnedAway, shortBuffer, wrongCell, receiverGround16, receiverGround17, ground20, receiveGrounds, received, frameReceive, frameListen, hearStep, listenStep}
 use Rattle.copies.specs.Copy.{copyWith}
 use Rattle.exclusion.specs.Trial.{trialVerdict, tooLarge, trialOfNumbers}
-use Rattle.answers.specs.Answer.{toldVerdict, toldRole, toldCount, toldStart, toldListen, toldSend, toldReceive}
+use Rattle.reasons.specs.declared.WhyAnswer.{WhyAnswer}
+use Rattle.reasons.specs.declared.WhyAnswer.the-variants as a-why
+use Rattle.reasons.specs.Reasons.{whyAnswer, named}
+use Rattle.reasons.proofs.Answers.{same-role}
+use Rattle.answers.specs.Answer.{toldVerdict, toldRole, toldWhy, toldCount, toldStart, toldListen, toldSend, toldReceive}
 use Rattle.runs.specs.Run.{isStarted, isListening, isSent, isReceived}
-use Rattle.callruns.specs.Host.{isAccepted, isRole, isCount}
+use Rattle.callruns.specs.Host.{isAccepted, isRole, isReasoned, isCount}
+
+-- why a subcarrier has its role is refused as the role is
+same-number : (w : WhyAnswer) → toldWhy w .number ≡ toldRole (named w) .number
+same-number (a-why.ExcludedBy i) = refl
+same-number (a-why.PlcBy i) = refl
+same-number (a-why.PilotBelow x) = refl
+same-number (a-why.PilotAbove x) = refl
+same-number (a-why.PilotBy i) = refl
+same-number (a-why.ScatteredOnly q) = refl
+same-number (a-why.DataBut q) = refl
+same-number (a-why.Refused n place) = refl
 
 -- ---- the number of a ground
 
@@ -193,6 +208,11 @@ module _ (d : Device) (s : List ℕ) where
       go : (b : Bool) → eqb (toldRole (made b) .number) 0 ≡ isRole (made b)
       go true = refl
       go false = refl
+
+  pub why-zero : (k j : ℕ) → eqb (toldWhy (whyAnswer d s k j) .number) 0 ≡ isReasoned (whyAnswer d s k j)
+  why-zero k j =
+      ap (λ (n : ℕ). eqb n 0) (same-number (whyAnswer d s k j) ∙ ap (λ (r : RoleAnswer). toldRole r .number) (same-role d s k j))
+      ∙ role-zero k j ∙ sym (ap isRole (same-role d s k j))
 
   pub count-zero : (j : ℕ) → eqb (toldCount (dataCountAnswer d s j) .number) 0 ≡ isCount (dataCountAnswer d s j)
   unfolding dataCountAnswer frameCount

@@ -21,12 +21,13 @@ use Rattle.bytecells.specs.Octets.{cellsOf, odd}
 use Rattle.bytecells.specs.ByteSteps.{startBytes, listenBytes, emitBytes, flushBytes, receiveBytes, fillBytes, unfillBytes}
 use Rattle.bytemodulate.specs.ByteSymbols.{modulateBytes}
 use Rattle.exclusion.specs.Trial.{trialOfNumbers}
+use Rattle.reasons.specs.Reasons.{whyAnswer}
 use Rattle.answers.specs.declared.Told.{Told}
-use Rattle.answers.specs.Answer.{short, written, toldVerdict, toldRole, toldCount, toldStart, toldListen, toldSend, toldReceive}
+use Rattle.answers.specs.Answer.{short, written, toldVerdict, toldRole, toldWhy, toldCount, toldStart, toldListen, toldSend, toldReceive}
 use Rattle.runs.specs.Run.{isStarted, isListening, isSent, isReceived}
-use Rattle.headend.specs.Calls.{Said, says, StoreSaid, saysStore, StepSaid, saysStep, NumbersSaid, saysNumbers, FillSaid, saysFill, fillTold, startTold, listenTold, sendTold, receiveTold, modulateTold, judgeCall, tryCall, roleCall, countCall, startCall, listenCall, emitCall, flushCall, receiveCall, fillCall, unfillCall, modulateCall}
-use Rattle.callruns.specs.Host.{isAccepted, isRole, isCount, isModulated, ZeroIsAccepted}
-use Rattle.callruns.proofs.Numbers.{verdict-zero, trial-zero, role-zero, count-zero, start-zero, listen-zero, send-zero, hear-zero, fill-zero, unfill-zero}
+use Rattle.headend.specs.Calls.{Said, says, StoreSaid, saysStore, StepSaid, saysStep, NumbersSaid, saysNumbers, FillSaid, saysFill, fillTold, startTold, listenTold, sendTold, receiveTold, modulateTold, judgeCall, tryCall, roleCall, whyCall, countCall, startCall, listenCall, emitCall, flushCall, receiveCall, fillCall, unfillCall, modulateCall}
+use Rattle.callruns.specs.Host.{isAccepted, isRole, isReasoned, isCount, isModulated, ZeroIsAccepted}
+use Rattle.callruns.proofs.Numbers.{verdict-zero, trial-zero, role-zero, why-zero, count-zero, start-zero, listen-zero, send-zero, hear-zero, fill-zero, unfill-zero}
 use Rattle.callruns.proofs.Modulated.{modulate-bytes}
 
 -- the number of x where b holds, 21, and else of y
@@ -81,11 +82,12 @@ module _ (d : Device) (s : List ℕ) where
   told-zero a t ok h = zero (λ (x : Said). x .number) (short a) (says 21 a) (says (t .number) (written a t)) ok refl h
 
   pub zero-is-accepted : ZeroIsAccepted d s
-  unfolding judgeCall tryCall roleCall countCall startCall listenCall emitCall flushCall receiveCall fillCall unfillCall modulateCall
+  unfolding judgeCall tryCall roleCall whyCall countCall startCall listenCall emitCall flushCall receiveCall fillCall unfillCall modulateCall
   zero-is-accepted = record {
     judged = λ a. told-zero a (toldVerdict (verdict d s)) (isAccepted (verdict d s)) (verdict-zero d s);
     tried = λ first last a. told-zero a (toldVerdict (trialOfNumbers d s first last)) (isAccepted (trialOfNumbers d s first last)) (trial-zero d s first last);
     role = λ k j a. told-zero a (toldRole (roleAnswer d s k j)) (isRole (roleAnswer d s k j)) (role-zero d s k j);
+    reasoned = λ k j a. told-zero a (toldWhy (whyAnswer d s k j)) (isReasoned (whyAnswer d s k j)) (why-zero d s k j);
     counted = λ j a. told-zero a (toldCount (dataCountAnswer d s j)) (isCount (dataCountAnswer d s j)) (count-zero d s j);
     started = λ j store a.
         zero (λ (x : StoreSaid). x .said .number) (short a) (saysStore 21 store a) (startTold (startBytes d s j store) a) (isStarted (startBytes d s j store .answer)) refl (start-bytes j store);

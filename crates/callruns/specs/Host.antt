@@ -1,4 +1,4 @@
--- What a C host reads from a call's number and from the value in its answer buffer (requests 01, 04, 05 and 07). Statements only. Assumes nothing.
+-- What a C host reads from a call's number and from the value in its answer buffer (requests 01, 04, 05, 07 and 08). Statements only. Assumes nothing.
 use Prim.Native.Nat.{ℕ, _+_, _*_}
 use mathlib.Core.Path.{_≡_}
 use mathlib.Core.Logic.{_↔_}
@@ -27,7 +27,9 @@ use Rattle.bytemodulate.specs.ByteSymbols.{modulateBytes}
 use Rattle.answers.specs.Answer.{short}
 use Rattle.runs.specs.Run.{isStarted, isListening, isSent, isReceived}
 use Rattle.exclusion.specs.Trial.{trialOfNumbers}
-use Rattle.headend.specs.Calls.{judgeCall, tryCall, roleCall, countCall, startCall, listenCall, emitCall, flushCall, receiveCall, fillCall, unfillCall, modulateCall}
+use Rattle.reasons.specs.declared.WhyAnswer.{WhyAnswer}
+use Rattle.reasons.specs.Reasons.{whyAnswer, named}
+use Rattle.headend.specs.Calls.{judgeCall, tryCall, roleCall, whyCall, countCall, startCall, listenCall, emitCall, flushCall, receiveCall, fillCall, unfillCall, modulateCall}
 
 -- no ground refuses
 abbrev pub isAccepted : Verdict → Bool
@@ -37,6 +39,9 @@ isAccepted (a-verdict.Refused n place) = false
 abbrev pub isRole : RoleAnswer → Bool
 isRole (a-role.Is r) = true
 isRole (a-role.Refused n place) = false
+
+abbrev pub isReasoned : WhyAnswer → Bool
+isReasoned w = isRole (named w)
 
 abbrev pub isCount : CountAnswer → Bool
 isCount (a-count.Count n) = true
@@ -64,6 +69,7 @@ pub record ZeroIsAccepted (d : Device) (s : List ℕ) : Type 0 where
   pub judged : (a : List ℕ) → (judgeCall d s a .number ≡ 0) ↔ ((short a ≡ false) × (isAccepted (verdict d s) ≡ true))
   pub tried : (first last : ℕ) (a : List ℕ) → (tryCall d s first last a .number ≡ 0) ↔ ((short a ≡ false) × (isAccepted (trialOfNumbers d s first last) ≡ true))
   pub role : (k j : ℕ) (a : List ℕ) → (roleCall d s k j a .number ≡ 0) ↔ ((short a ≡ false) × (isRole (roleAnswer d s k j) ≡ true))
+  pub reasoned : (k j : ℕ) (a : List ℕ) → (whyCall d s k j a .number ≡ 0) ↔ ((short a ≡ false) × (isReasoned (whyAnswer d s k j) ≡ true))
   pub counted : (j : ℕ) (a : List ℕ) → (countCall d s j a .number ≡ 0) ↔ ((short a ≡ false) × (isCount (dataCountAnswer d s j) ≡ true))
   pub started : (j : ℕ) (store a : List ℕ) → (startCall d s j store a .said .number ≡ 0) ↔ ((short a ≡ false) × (isStarted (startBytes d s j store .answer) ≡ true))
   pub listens : (j : ℕ) (store a : List ℕ) → (listenCall d s j store a .said .number ≡ 0) ↔ ((short a ≡ false) × (isListening (listenBytes d s j store .answer) ≡ true))

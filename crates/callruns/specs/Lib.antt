@@ -1,2 +1,3 @@
 pub mod Host
 pub mod CallEntries
+pub mod WhyRead

@@ -14,8 +14,9 @@ ghost use Rattle.runs.specs.Demand3.{Demand3};
 ghost use Rattle.runs.specs.Claims.{PlanClaims};
 ghost use Rattle.callruns.specs.Host.{ZeroIsAccepted, ZeroIsWarming};
 ghost use Rattle.callruns.specs.CallEntries.{callEntries, AnyBuffer};
+ghost use Rattle.callruns.specs.WhyRead.{WhyIsRead};
 
-// Any bytes as a plan: each of the twelve calls returns 0 exactly if nothing refuses.
+// Any bytes as a plan: each of the thirteen calls returns 0 exactly if nothing refuses.
 pub fn zero_is_accepted()
     ensures { λ _. ⌜ ((s : List ℕ) → ZeroIsAccepted khz50 s) ⌝ }
 {}
@@ -23,6 +24,11 @@ pub fn zero_is_accepted()
 // Any bytes as a plan: a receive call that returns 0 leaves the value 0 exactly if it answers warming.
 pub fn zero_is_warming()
     ensures { λ _. ⌜ ((s : List ℕ) → ZeroIsWarming khz50 s) ⌝ }
+{}
+
+// Any bytes as a plan: what a host reads from a call that says why is the answer of `why`.
+pub fn why_is_read()
+    ensures { λ _. ⌜ ((s : List ℕ) → WhyIsRead khz50 s) ⌝ }
 {}
 
 // Every accepted plan, every starting phase, all lists of calls, in any answer buffer that is long enough: placed, unique, returned, streams.

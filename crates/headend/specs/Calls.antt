@@ -1,4 +1,4 @@
--- The calls for a C host (requests 01, 04, 05 and 07): too short an answer buffer is ground 21 and leaves all as it is; else a call returns and
+-- The calls for a C host (requests 01, 04, 05, 07 and 08): too short an answer buffer is ground 21 and leaves all as it is; else a call returns and
 -- leaves what the entry beneath it answers and leaves. Assumes nothing.
 use Prim.Native.Nat.{ℕ}
 use mathlib.Core.List.{List}
@@ -11,11 +11,12 @@ use Rattle.rules.specs.Steps.{Starting, Sending, dataCountAnswer}
 use Rattle.rules.specs.Receive.{Listening, Receiving}
 use Rattle.rules.specs.Filling.{Filling}
 use Rattle.exclusion.specs.Trial.{trialOfNumbers}
+use Rattle.reasons.specs.Reasons.{whyAnswer}
 use Rattle.bytecells.specs.ByteSteps.{startBytes, listenBytes, emitBytes, flushBytes, receiveBytes, fillBytes, unfillBytes}
 use Rattle.modulator.specs.Symbols.{Modulating}
 use Rattle.bytemodulate.specs.ByteSymbols.{modulateBytes}
 use Rattle.answers.specs.declared.Told.{Told}
-use Rattle.answers.specs.Answer.{short, written, toldVerdict, toldRole, toldCount, toldStart, toldListen, toldSend, toldReceive, toldModulate}
+use Rattle.answers.specs.Answer.{short, written, toldVerdict, toldRole, toldWhy, toldCount, toldStart, toldListen, toldSend, toldReceive, toldModulate}
 
 -- what a call returns, and what it leaves in the answer buffer
 pub record Said : Type 0 where
@@ -92,6 +93,9 @@ module _ (d : Device) (s : List ℕ) where
   -- the subcarrier and the phase
   unfoldable pub roleCall : ℕ → ℕ → List ℕ → Said
   roleCall k j a = telling a (toldRole (roleAnswer d s k j))
+
+  unfoldable pub whyCall : ℕ → ℕ → List ℕ → Said
+  whyCall k j a = telling a (toldWhy (whyAnswer d s k j))
 
   -- the phase
   unfoldable pub countCall : ℕ → List ℕ → Said

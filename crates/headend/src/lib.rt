@@ -3,7 +3,7 @@
 // out in the buffer.
 ghost use mathlib.Core.Path.{_≡_};
 ghost use Rattle.rules.specs.Device.{khz50};
-ghost use Rattle.headend.specs.Calls.{says, saysStore, saysStep, saysFill, saysNumbers, judgeCall, tryCall, roleCall, countCall, startCall, listenCall, emitCall, flushCall, receiveCall, fillCall, unfillCall, modulateCall};
+ghost use Rattle.headend.specs.Calls.{says, saysStore, saysStep, saysFill, saysNumbers, judgeCall, tryCall, roleCall, whyCall, countCall, startCall, listenCall, emitCall, flushCall, receiveCall, fillCall, unfillCall, modulateCall};
 use rules::EmitterState;
 use rules::ReceiverState;
 
@@ -47,6 +47,17 @@ pub extern "C" fn headend_role(plan: &[u8], subcarrier: u32, phase: u32, answer:
         answer,
         answers::told_role(judge::role(plan, subcarrier, phase)),
     )
+}
+
+// What a subcarrier is doing at a phase, and why.
+#[no_mangle]
+pub extern "C" fn headend_why(plan: &[u8], subcarrier: u32, phase: u32, answer: &mut [u8]) -> u32
+    ensures { λ r. ⌜ says r (now (answer .exit)) ≡ whyCall khz50 (now (plan .entry)) subcarrier phase (now (answer .entry)) ⌝ }
+{
+    if answer.len() < ANSWER {
+        return 21;
+    }
+    answers::tell(answer, answers::told_why(why::why(plan, subcarrier, phase)))
 }
 
 // N_D at a phase.

@@ -39,3 +39,11 @@ module _ (d : Device) (l k : ℕ) (fits : Fits d) (low : d .lowPlc ≤ l) (is : 
       go (inr (n, few, e)) =
           let same : away d n ≡ k - (l + d .plcWidth - 1) = omega arith in
           (subst (λ (x : ℕ). oneOf x (d .distances) ≡ true) same (away-one d fits n few), omega arith)
+
+  -- above the whole PLC
+  pub pilot-past : l ≤ k → l + d .plcWidth ≤ k
+  pilot-past h = go on-side
+    where
+      go : Sided d l k → l + d .plcWidth ≤ k
+      go (inl (n, few, e)) = absurd (omega (arith, fits .near n few .0, fits .near n few .1, fits .plcLow))
+      go (inr (n, few, e)) = omega (arith, fits .near n few .0, fits .plcSome)

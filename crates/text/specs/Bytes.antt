@@ -13,6 +13,10 @@ written l = take (l .len) (l .text)
 abbrev pub places : ℕ
 places = 32
 
+-- so many bytes of words leave room for a number, which has up to ten digits, and the end of the line
+abbrev pub wordsMax : ℕ
+wordsMax = 21
+
 -- n bytes more fit
 pub record Room (l : Line) (n : ℕ) : Type 0 where
   pub size : length (l .text) ≡ places

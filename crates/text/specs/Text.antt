@@ -1,5 +1,5 @@
--- The lines that `plancheck` prints (document 01, "Plan A and its neighbours", last paragraph), as lists of ASCII bytes.
--- Examples are in proofs/Examples.antt. Assumes nothing.
+-- The lines that `plancheck` prints (document 01, "Plan A and its neighbours", last paragraph), and lines with one number, as lists of
+-- ASCII bytes. Examples are in proofs/Examples.antt. Assumes nothing.
 use Prim.Native.Nat.{ℕ, zero, suc, _+_, _/_, _%_}
 use mathlib.Core.Bool.{true, false}
 use mathlib.Core.List.{List, [], _∷_, _++_}
@@ -13,6 +13,10 @@ spelled (suc steps) n = elim (ltb n 10) [ true ↦ (48 + n) ∷ [] | false ↦ s
 -- n in base 10, without leading zeros: n falls at each step, so n + 1 steps are enough for every n
 unfoldable pub decimal : ℕ → List ℕ
 decimal n = spelled (suc n) n
+
+-- some words, then a number and the end of the line
+unfoldable pub numberLine : List ℕ → ℕ → List ℕ
+numberLine words n = words ++ decimal n ++ (10 ∷ [])
 
 -- "ok "
 abbrev pub ok : List ℕ

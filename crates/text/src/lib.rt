@@ -1,11 +1,11 @@
-// Lines as proved text: what a line of a verdict says is a definition of specs/Text.antt.
+// Lines as proved text: what a line says is a definition of specs/Text.antt.
 ghost use Prim.Native.Nat.{_≤_};
 ghost use mathlib.Core.Path.{_≡_};
 ghost use mathlib.Core.List.{[], _∷_};
 ghost use lib.ListN.{length};
 ghost use Rattle.io.specs.Counts.{Counts};
-ghost use Rattle.text.specs.Text.{decimal, lineOf, okLine, refusedLine};
-ghost use Rattle.text.specs.Bytes.{written, Room, Longer};
+ghost use Rattle.text.specs.Text.{decimal, numberLine, lineOf, okLine, refusedLine};
+ghost use Rattle.text.specs.Bytes.{written, wordsMax, Room, Longer};
 
 // A line: the first len bytes of text.
 pub struct Line {
@@ -27,6 +27,21 @@ pub fn refused_line(number: u32, place: u32) -> Line
     ensures { λ r. ⌜ Counts (r .len) (r .text) ⌝ }
 {
     line_of(b"refused ", number, place)
+}
+
+// A line that says one thing: some words, a number and the end of the line.
+pub fn number_line(words: &[u8], n: u32) -> Line
+    requires { ⌜ length (now words) ≤ wordsMax ⌝ }
+    ensures { λ r. ⌜ written r ≡ numberLine (now (words .entry)) n ⌝ }
+    ensures { λ r. ⌜ Counts (r .len) (r .text) ⌝ }
+{
+    let empty = Line {
+        text: [0; 32],
+        len: 0,
+    };
+    let begun = append(empty, words);
+    let numbered = append_number(begun, n);
+    push(numbered, b'\n')
 }
 
 // A word, two numbers and the end of the line.

@@ -1,7 +1,7 @@
 // What a subcarrier is doing, and why (document 02, Req 08): its role at a phase, and the record, the distance or the phase that is the
 // reason. The answer and its definition are crate reasons'. The entry `why` reads the plan bytes anew, changes nothing and asks nothing of
 // its caller.
-ghost use Prim.Native.Nat.{_<_};
+ghost use Prim.Native.Nat.{_+_, _-_, _≤_, _<_};
 ghost use mathlib.Core.Path.{_≡_};
 ghost use mathlib.Core.Bool.{true, false};
 ghost use Rattle.rules.specs.declared.Finding.the-variants.{Fine};
@@ -81,6 +81,15 @@ fn first_record(plan: &[u8], effect: Effect, k: usize) -> u32
     }
 }
 
+// How far k lies above the last PLC subcarrier.
+fn above_plc(d: Device, l: usize, k: usize) -> usize
+    requires { ⌜ Fits d × (l ≤ d .highPlc) × (l + d .plcWidth ≤ k) ⌝ }
+    ensures { λ r. ⌜ r ≡ k - (l + d .plcWidth - 1) ⌝ }
+{
+    let last = l + d.plcWidth - 1;
+    k - last
+}
+
 // Why k is a continuous pilot.
 fn pilot_reason(d: Device, plan: &[u8], k: usize) -> WhyAnswer
     requires { ⌜ Fits d × (grounds1to15 d (now plan) ≡ Fine) × (k < d .subcarriers) ⌝ }
@@ -93,8 +102,7 @@ fn pilot_reason(d: Device, plan: &[u8], k: usize) -> WhyAnswer
     if k < l {
         return WhyAnswer::PilotBelow((l - k) as u32);
     }
-    let last = l + d.plcWidth - 1;
-    WhyAnswer::PilotAbove((k - last) as u32)
+    WhyAnswer::PilotAbove(above_plc(d, l, k) as u32)
 }
 
 // The phase at which a scattered pilot stands at k, which has a rank.

@@ -7,8 +7,8 @@ use borrow.Author.Tests.{not-true, not-false}
 use Rattle.rules.specs.Plan.{planOf}
 use Rattle.rules.specs.Roles.{oneOf, predefined}
 use Rattle.facts.proofs.Accepted.{good-length, long, plc-in}
-use Rattle.roles.proofs.Distances.{pilot-above}
-use Rattle.reasons.specs.declared.WhyAnswer.the-variants.{PilotBy}
+use Rattle.roles.proofs.Distances.{pilot-past}
+use Rattle.reasons.specs.declared.WhyAnswer.the-variants.{PilotAbove, PilotBy}
 use Rattle.why.proofs.Pilots.{by-record, by-below, by-above}
 use Rattle.why.proofs.pilot_reason.Statement.{statement}
 use Rattle.why.proofs.pilot_reason.Tie as tie
@@ -44,11 +44,11 @@ returns c =
     ap PilotBy (c .first-record .ensures)
     ∙ by-record (g .args .d) (g .args .plan .now) (g .args .k) (n .number-at .result) (plc n) (among (c .before .before) false (not-true _ (c .before .if1 .taken)))
 
-sub-t11 : tie.Need-sub-t11
-sub-t11 c = search needs
+sub-t10 : tie.Need-sub-t10
+sub-t10 c = search needs
 
-cast-t12 : tie.Need-cast-t12
-cast-t12 c = search needs
+cast-t11 : tie.Need-cast-t11
+cast-t11 c = search needs
 
 returns-2 : tie.Need-returns-2
 returns-2 c =
@@ -56,28 +56,25 @@ returns-2 c =
     let g = n .before .before in
     by-below (g .args .d) (g .args .plan .now) (g .args .k) (n .number-at .result) (plc n) (among (c .before .before) true (not-false _ (c .before .if1 .left))) (c .if2 .taken)
 
-add-last : tie.Need-add-last
-add-last c = search needs
-
-sub-last : tie.Need-sub-last
-sub-last c = search needs
-
-sub-t13 : tie.Need-sub-t13
-sub-t13 c =
-    let n = c .before .before .before .before .before in
+above-plc-requires : tie.Need-above-plc-requires
+above-plc-requires c κs =
+    let n = c .before .before .before .before in
     let g = n .before .before in
-    let low = plc-in (g .args .d) (g .args .plan .now) (g .pre .1) .0 in
-    let far = pilot-above (g .args .d) (n .number-at .result) (g .args .k) (g .pre .0) (omega (arith, plc n, low)) (among (c .before .before .before) true (not-false _ (c .before .before .if1 .left))) (c .before .if2 .left) .1 in
-    omega (arith, far)
+    let w = plc-in (g .args .d) (g .args .plan .now) (g .pre .1) in (
+      g .pre .0,
+      omega (arith, plc n, w .1),
+      pilot-past (g .args .d) (n .number-at .result) (g .args .k) (g .pre .0) (omega (arith, plc n, w .0)) (among (c .before .before) true (not-false _ (c .before .if1 .left))) (c .if2 .left),
+    )
 
-cast-t14 : tie.Need-cast-t14
-cast-t14 c = search needs
+cast-t13 : tie.Need-cast-t13
+cast-t13 c = search needs
 
 returns-3 : tie.Need-returns-3
 returns-3 c =
     let n = c .before .before .before .before .before in
     let g = n .before .before in
-    by-above (g .args .d) (g .args .plan .now) (g .args .k) (n .number-at .result) (plc n) (among (c .before .before .before) true (not-false _ (c .before .before .if1 .left))) (c .before .if2 .left)
+    ap PilotAbove (c .above-plc .ensures)
+    ∙ by-above (g .args .d) (g .args .plan .now) (g .args .k) (n .number-at .result) (plc n) (among (c .before .before .before) true (not-false _ (c .before .before .if1 .left))) (c .before .if2 .left)
 
 pub pilot-reason-spec : {M : Type 1} → statement M
 pilot-reason-spec =
@@ -88,11 +85,9 @@ pilot-reason-spec =
     is-among-requires
     first-record-requires
     returns
-    sub-t11
-    cast-t12
+    sub-t10
+    cast-t11
     returns-2
-    add-last
-    sub-last
-    sub-t13
-    cast-t14
+    above-plc-requires
+    cast-t13
     returns-3)
