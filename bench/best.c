@@ -880,6 +880,29 @@ static inline void take_data(cell *data, const cell *cells, uint32_t n, const ui
     memcpy(data, cells + p, 2 * (n - p));
 }
 
+/* --- the reason of a role --- */
+
+/* The first record on the chain that excludes k or makes it a pilot, of an accepted plan in which one does. The second number of
+ * a pilot's record is 0. */
+static inline uint32_t first_record(const uint8_t *plan, uint32_t k)
+{
+    uint64_t w = record(plan, 0);
+    for (;;) {
+        uint32_t i = w >> 32 & 0xffff;
+        w = record(plan, i);
+        uint32_t first = w >> 16 & 0xffff, second = w & 0xffff;
+        if (first == k || (first < k && k <= second))
+            return i;
+    }
+}
+
+/* Whether a predefined pilot stands at this distance. */
+static inline int is_distance(uint32_t d)
+{
+    static const uint64_t all = (uint64_t)1 << 15 | (uint64_t)1 << 24 | (uint64_t)1 << 35 | (uint64_t)1 << 47;
+    return d < 64 && (all >> d & 1);
+}
+
 /* --- the calls --- */
 
 static inline void put(uint8_t *at, uint32_t x)
@@ -917,15 +940,20 @@ uint32_t best_try(const uint8_t *plan, size_t plan_len, uint32_t first, uint32_t
     return say(answer, answer_len, g, g == 0 ? 0 : s.place, 0, 0, g == 0 ? s.n : 0);
 }
 
+/* Grounds 1 to 16 of a plan, a subcarrier and a phase. */
+static uint32_t judge_at(struct plan *s, const uint8_t *plan, size_t plan_len, uint32_t subcarrier, uint32_t phase)
+{
+    uint32_t g = judge(s, plan, plan_len);
+    return g == 0 && (subcarrier >= SUBCARRIERS || phase >= 128) ? refuse(s, 16, 0) : g;
+}
+
 uint32_t best_role(const uint8_t *plan, size_t plan_len, uint32_t subcarrier, uint32_t phase, uint8_t *answer, size_t answer_len)
 {
     struct plan s;
     uint32_t role = 0;
     if (answer_len < ANSWER)
         return 21;
-    uint32_t g = judge(&s, plan, plan_len);
-    if (g == 0 && (subcarrier >= SUBCARRIERS || phase >= 128))
-        g = refuse(&s, 16, 0);
+    uint32_t g = judge_at(&s, plan, plan_len, subcarrier, phase);
     if (g == 0)
         switch (mark(&s, subcarrier, phase)) {
         case EXCLUDED: role = 1; break;
@@ -935,6 +963,28 @@ uint32_t best_role(const uint8_t *plan, size_t plan_len, uint32_t subcarrier, ui
         default: role = 5;
         }
     return say(answer, answer_len, g, g == 0 ? 0 : s.place, 0, 0, role);
+}
+
+uint32_t best_why(const uint8_t *plan, size_t plan_len, uint32_t subcarrier, uint32_t phase, uint8_t *answer, size_t answer_len)
+{
+    struct plan s;
+    if (answer_len < ANSWER)
+        return 21;
+    uint32_t g = judge_at(&s, plan, plan_len, subcarrier, phase), k = subcarrier;
+    if (g != 0)
+        return say(answer, answer_len, g, s.place, 0, 0, 0);
+    uint32_t below = s.l - k, above = k - (s.l + 7), met = (above - 1) & 127; /* the phase at which the pattern meets it */
+    if (!has(s.taken, k))
+        return say(answer, answer_len, 0, 0, met, 0, met == phase ? 6 : 7);
+    if (has(s.excluded, k))
+        return say(answer, answer_len, 0, first_record(plan, k), 0, 0, 1);
+    if (k - s.l < 8)
+        return say(answer, answer_len, 0, 0, 0, 0, 2);
+    if (is_distance(below))
+        return say(answer, answer_len, 0, below, 0, 0, 3);
+    if (is_distance(above))
+        return say(answer, answer_len, 0, above, 0, 0, 4);
+    return say(answer, answer_len, 0, first_record(plan, k), 0, 0, 5);
 }
 
 uint32_t best_data_count(const uint8_t *plan, size_t plan_len, uint32_t phase, uint8_t *answer, size_t answer_len)

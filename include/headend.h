@@ -37,8 +37,8 @@ extern "C" {
 
 /* The answer buffer: its least length, and where each number of four bytes begins. What a call does not give is 0. */
 #define HEADEND_ANSWER_BYTES 16
-#define HEADEND_PLACE 0  /* the place of a refusal */
-#define HEADEND_PHASE 4  /* the state of the next step: phase, */
+#define HEADEND_PLACE 0  /* the place of a refusal; of headend_why else a record or a distance */
+#define HEADEND_PHASE 4  /* the state of the next step: phase (of headend_why that of a scattered pilot), */
 #define HEADEND_HEARD 8  /* and of a receiver the symbols heard, up to M - 1 */
 #define HEADEND_VALUE 12 /* N_I, N_D, the number of data cells handed out or of bits, a role, or the subcarrier of a refusal by 22 or 23 */
 
@@ -48,6 +48,15 @@ extern "C" {
 #define HEADEND_CONTINUOUS 3
 #define HEADEND_SCATTERED 4
 #define HEADEND_DATA 5
+
+/* What a subcarrier is doing and why, the value of headend_why: each is a role with its reason, and headend_why_role gives the role. */
+#define HEADEND_WHY_EXCLUDED 1     /* excluded; place: the record that excludes it, the first such on the chain */
+#define HEADEND_WHY_PLC 2          /* PLC; place: record 0 */
+#define HEADEND_WHY_PILOT_BELOW 3  /* continuous, predefined; place: the distance below L */
+#define HEADEND_WHY_PILOT_ABOVE 4  /* continuous, predefined; place: the distance above L + 7, the last PLC subcarrier */
+#define HEADEND_WHY_PILOT_RECORD 5 /* continuous; place: the record that makes it a pilot, the first such on the chain */
+#define HEADEND_WHY_SCATTERED 6    /* scattered; phase: the one that was passed, and the only one at which it is */
+#define HEADEND_WHY_DATA 7         /* data; phase: the one phase at which a scattered pilot stands there, never the one that was passed */
 
 /* What a cell may hold: data from 0 to the limit of its subcarrier's load, with load 14 HEADEND_CELL_DATA_MAX, or a mark. */
 #define HEADEND_CELL_DATA_MAX 16383u
@@ -155,6 +164,12 @@ uint32_t headend_try(const uint8_t *plan, size_t plan_len, uint32_t first, uint3
 /* The role of a subcarrier at a phase. Value: the role. Refuses by 1 to 16 and 21. */
 HEADEND_NOT_IGNORED
 uint32_t headend_role(const uint8_t *plan, size_t plan_len, uint32_t subcarrier, uint32_t phase, uint8_t *answer, size_t answer_len);
+
+/* What a subcarrier is doing at a phase, and why. Value: one of HEADEND_WHY_EXCLUDED to HEADEND_WHY_DATA, a role with its reason; place or
+ * phase: the record, the distance or the phase that is the reason. The role is the one that headend_role gives. Refuses by 1 to 16 and
+ * 21, as headend_role does. */
+HEADEND_NOT_IGNORED
+uint32_t headend_why(const uint8_t *plan, size_t plan_len, uint32_t subcarrier, uint32_t phase, uint8_t *answer, size_t answer_len);
 
 /* How many data cells an input symbol at a phase has: so many an emit at that phase takes. Value: N_D, at least 1. It is not the number of
  * data cells of the symbol emitted at that phase: the placeholders of one input symbol belong to M emitted ones. Refuses by 1 to 16 and
@@ -272,6 +287,21 @@ static inline size_t headend_emitter_store_bytes(uint32_t cells, uint32_t depth)
 static inline size_t headend_receiver_store_bytes(uint32_t cells, uint32_t depth)
 {
     return (size_t)2 * cells * (depth - 1) - headend_emitter_store_bytes(cells, depth);
+}
+
+/* The role of a value of headend_why, as headend_role gives it; 0 of any other number. */
+static inline uint32_t headend_why_role(uint32_t value)
+{
+    switch (value) {
+    case HEADEND_WHY_EXCLUDED: return HEADEND_EXCLUDED;
+    case HEADEND_WHY_PLC: return HEADEND_PLC;
+    case HEADEND_WHY_PILOT_BELOW:
+    case HEADEND_WHY_PILOT_ABOVE:
+    case HEADEND_WHY_PILOT_RECORD: return HEADEND_CONTINUOUS;
+    case HEADEND_WHY_SCATTERED: return HEADEND_SCATTERED;
+    case HEADEND_WHY_DATA: return HEADEND_DATA;
+    default: return 0u;
+    }
 }
 
 /* What ground 20 takes at a role: its mark, and for a data role filler. */

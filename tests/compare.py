@@ -1,14 +1,16 @@
 #!/usr/bin/env python3
-"""Holds a plancheck program, or a trycheck program, against the model.
+"""Holds a plancheck, a trycheck or a whycheck program against the model.
 
     python3 tests/compare.py PROGRAM [COUNT] [SEED]
     python3 tests/compare.py --ranges PROGRAM [COUNT] [SEED]
+    python3 tests/compare.py --subcarriers PROGRAM [COUNT] [SEED]
 
 Makes COUNT plans (3000 if not given), sound ones near the limits and hostile
 ones, gives each to PROGRAM on standard input and compares the whole of its
 standard output with the model's line.  With --ranges the program is given a
-range by chance too, as two words.  Prints the differences, a histogram of the
-lines and the number compared, and exits 1 on any difference.
+range by chance too, with --subcarriers a subcarrier and a phase, as two words.
+Prints the differences, a histogram of the lines and the number compared, and
+exits 1 on any difference.
 """
 
 import random
@@ -340,6 +342,31 @@ def trials(count, seed):
         yield source, data, first, min(last, RECORD_MAX)
 
 
+def some_subcarrier(rng, data):
+    """A subcarrier at or beside an end of a range, a pilot, the PLC or a distance, or anywhere."""
+    whole = len(data) // 8 * 8
+    words = [int.from_bytes(data[i:i + 2], 'big') for i in range(0, whole, 2)] or [0] * 4
+    l = words[2]
+    k = rng.choice((rng.choice(words[2::4]), rng.choice(words[3::4]), l + rng.randrange(-60, 70),
+                    l - rng.choice((15, 24, 35, 47)), l + 7 + rng.choice((15, 24, 35, 47)),
+                    rng.randrange(4100), rng.randrange(4096)))
+    return max(k + rng.choice((0, 0, 0, 0, -1, 1)), 0)
+
+
+def questions(count, seed):
+    """(where from, bytes, subcarrier, phase) of every plan and subcarrier to be compared, at a phase by chance, at that
+    of the pattern, and past the last."""
+    rng = random.Random(seed)
+    for source, data in inputs(count, seed):
+        k = some_subcarrier(rng, data[:4104])
+        l = int.from_bytes(data[4:6], 'big')
+        yield source, data, k, rng.choice((rng.randrange(128), (k - l - 8) % 128, (k - l - 8) % 128, rng.randrange(131)))
+
+
+# What a program of an option is given, and the line that the model has for it.
+GIVEN = {None: (inputs, model.line), '--ranges': (trials, model.trial_line), '--subcarriers': (questions, model.why_line)}
+
+
 def answer(program, data, *words):
     """What the program prints, and its status (negative if it was ended by a
     signal or did not end)."""
@@ -352,7 +379,8 @@ def answer(program, data, *words):
 
 
 def main():
-    given = [word for word in sys.argv[1:] if word != '--ranges']
+    given = [word for word in sys.argv[1:] if word not in GIVEN]
+    option = next((word for word in sys.argv[1:] if word in GIVEN), None)
     if not 1 <= len(given) <= 3:
         sys.exit(__doc__)
     program = given[0]
@@ -361,20 +389,20 @@ def main():
     count = int(given[1]) if len(given) > 1 else 3000
     seed = int(given[2]) if len(given) > 2 else 1
     counts, compared, differences = Counter(), 0, 0
-    made = trials(count, seed) if '--ranges' in sys.argv[1:] else inputs(count, seed)
-    for source, data, *words in made:
-        want = model.trial_line(data, *words) if words else model.line(data)
-        counts[want.split()[1] if want.startswith('refused') else 'ok'] += 1
+    made, line_of = GIVEN[option]
+    for source, data, *words in made(count, seed):
+        want = line_of(data, *words)
+        counts[want.split()[1] if want.startswith('refused') else want.split()[0]] += 1
         printed, status = answer(program, data, *words)
         compared += 1
         if printed != (want + '\n').encode() or status < 0:
             differences += 1
             if differences <= SHOWN:
                 print('differs (%s, %d bytes%s): model %r, program %r, status %d\n  %s'
-                      % (source, len(data), ', %d to %d' % tuple(words) if words else '', want,
+                      % (source, len(data), ', words %d and %d' % tuple(words) if words else '', want,
                          printed[:80], status, data[:4096].hex()))
-    for key in ['ok'] + [str(n) for n in range(1, 16)]:
-        print('  %-3s %5d' % (key, counts[key]))
+    for key in sorted(counts, key=lambda key: (key.isdigit(), int(key) if key.isdigit() else 0, key)):
+        print('  %-10s %5d' % (key, counts[key]))
     print('%d compared, %d differences' % (compared, differences))
     sys.exit(1 if differences else 0)
 

@@ -28,6 +28,8 @@ static const struct {
     NAME(HEADEND_VERSION),
     NAME(HEADEND_ANSWER_BYTES), NAME(HEADEND_PLACE), NAME(HEADEND_PHASE), NAME(HEADEND_HEARD), NAME(HEADEND_VALUE),
     NAME(HEADEND_EXCLUDED), NAME(HEADEND_PLC), NAME(HEADEND_CONTINUOUS), NAME(HEADEND_SCATTERED), NAME(HEADEND_DATA),
+    NAME(HEADEND_WHY_EXCLUDED), NAME(HEADEND_WHY_PLC), NAME(HEADEND_WHY_PILOT_BELOW), NAME(HEADEND_WHY_PILOT_ABOVE),
+    NAME(HEADEND_WHY_PILOT_RECORD), NAME(HEADEND_WHY_SCATTERED), NAME(HEADEND_WHY_DATA),
     NAME(HEADEND_CELL_DATA_MAX), NAME(HEADEND_CELL_SCATTERED), NAME(HEADEND_CELL_FILLER), NAME(HEADEND_CELL_EXCLUDED),
     NAME(HEADEND_CELL_CONTINUOUS), NAME(HEADEND_CELL_PLC),
     NAME(HEADEND_SUBCARRIERS), NAME(HEADEND_PHASES), NAME(HEADEND_DEPTH_MAX), NAME(HEADEND_PLAN_BYTES_MAX), NAME(HEADEND_SYMBOL_BYTES),
@@ -45,10 +47,11 @@ static const struct {
 
 enum { SLOTS = 13, BUFFERS = 6, NUMBERS = 2, GUARD = 64, GUARD_BYTE = 0x5A, PAGE = 65536, ROOM = 1 << 21, STACK = 1 << 20 };
 enum { GROUNDS = 26, NO_CALL_GIVES = 24 };
-enum { JUDGE, TRY, ROLE, DATA_COUNT, FRESH_EMITTER, FRESH_RECEIVER, EMIT, FLUSH, RECEIVE, FILL, UNFILL, MODULATE, CALLS };
+enum { JUDGE, TRY, ROLE, WHY, DATA_COUNT, FRESH_EMITTER, FRESH_RECEIVER, EMIT, FLUSH, RECEIVE, FILL, UNFILL, MODULATE, CALLS };
 enum { GUARDED, OWN_BLOCK, PAGE_BEHIND, PAGE_BEFORE, NULL_IF_EMPTY, WAYS };
 /* The helpers. */
-enum { NUMBER, CELL, PUT_CELL, LOWEST_PLC, DEPTH, EMITTER_STORE_BYTES, RECEIVER_STORE_BYTES, MARK, SYMBOL_PHASE, POINT_LOAD };
+enum { NUMBER, CELL, PUT_CELL, LOWEST_PLC, DEPTH, EMITTER_STORE_BYTES, RECEIVER_STORE_BYTES, MARK, SYMBOL_PHASE, POINT_LOAD,
+       WHY_ROLE };
 
 static const struct {
     const char *name;
@@ -58,6 +61,7 @@ static const struct {
     {"judge", 0, 0, 2, {"plan", "answer"}},
     {"try", 2, 0, 2, {"plan", "answer"}},
     {"role", 2, 0, 2, {"plan", "answer"}},
+    {"why", 2, 0, 2, {"plan", "answer"}},
     {"data_count", 1, 0, 2, {"plan", "answer"}},
     {"fresh_emitter", 1, 0, 3, {"plan", "store", "answer"}},
     {"fresh_receiver", 1, 0, 3, {"plan", "store", "answer"}},
@@ -250,6 +254,7 @@ static uint32_t help(unsigned which, uint8_t *bytes, const uint8_t *other, uint3
     case MARK: return headend_mark(a);
     case SYMBOL_PHASE: return headend_symbol_phase(bytes, other);
     case POINT_LOAD: return headend_point_load(a);
+    case WHY_ROLE: return headend_why_role(a);
     default: fail("no helper %u", which);
     }
 }
@@ -351,6 +356,8 @@ static uint32_t make_call(const struct call *c, const struct lent *b)
         return headend_try(b[0].at, len[0], n[0], n[1], b[1].at, len[1]);
     case ROLE:
         return headend_role(b[0].at, len[0], n[0], n[1], b[1].at, len[1]);
+    case WHY:
+        return headend_why(b[0].at, len[0], n[0], n[1], b[1].at, len[1]);
     case DATA_COUNT:
         return headend_data_count(b[0].at, len[0], n[0], b[1].at, len[1]);
     case FRESH_EMITTER:

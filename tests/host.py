@@ -62,6 +62,11 @@ BLOCK = 256
 PLAN, SENDING, LISTENING, GIVEN, LINE, HANDED, SAID, LOADS, SIGNS, NUMBERS, PROFILE, STREAM, BACK = range(13)
 OF_CELLS = ('store', 'data', 'symbol')
 ROLES = ('excluded', 'plc', 'continuous', 'scattered', 'data')
+# The values of why from 1 on: the role and the kind of its reason, as the model says them, and the name in the header.
+WHYS = {('excluded', 'record'): 'EXCLUDED', ('plc', 'record'): 'PLC', ('continuous', 'below'): 'PILOT_BELOW',
+        ('continuous', 'above'): 'PILOT_ABOVE', ('continuous', 'record'): 'PILOT_RECORD', ('scattered', 'phase'): 'SCATTERED',
+        ('data', 'phase'): 'DATA'}
+WHY_ROLES = (0, 1, 2, 3, 3, 3, 4, 5)        # of each value the role, as the call of that name gives it; 0 is no value
 
 # Of each call: how many numbers it takes, its buffers, how many of its numbers are a state, its grounds.  Fill and unfill
 # take a start after their numbers.
@@ -69,6 +74,7 @@ CALLS = {
     'judge': (0, 'plan answer', 0, {*range(1, 16), 21}),
     'try': (2, 'plan answer', 0, {*range(1, 16), 21}),
     'role': (2, 'plan answer', 0, {*range(1, 17), 21}),
+    'why': (2, 'plan answer', 0, {*range(1, 17), 21}),
     'data_count': (1, 'plan answer', 0, {*range(1, 17), 21}),
     'fresh_emitter': (1, 'plan store answer', 0, {*range(1, 18), 21}),
     'fresh_receiver': (1, 'plan store answer', 0, {*range(1, 18), 21}),
@@ -84,7 +90,7 @@ STARTED = ('fill', 'unfill')
 NOT_LOADS = [load for load in range(256) if load not in LISTED]
 BUFFERS = [(name, key) for name, (_, buffers, *_) in CALLS.items() for key in buffers.split()]
 HELPERS = ('number', 'cell', 'put_cell', 'lowest_plc', 'depth', 'emitter_store_bytes', 'receiver_store_bytes',
-           'mark', 'symbol_phase', 'point_load')
+           'mark', 'symbol_phase', 'point_load', 'why_role')
 HEADER = ROOT / 'include' / 'headend.h'
 GROUNDS = ('PLAN_LENGTH', 'RECORD_KIND', 'NEXT_INDEX', 'RECORD_NUMBERS', 'PILOT_COUNT', 'ACTIVE_OUTSIDE',
            'EXCLUDED_AROUND_PLC', 'PILOT_TAKEN', 'NARROW_BAND', 'NO_WIDE_BAND', 'EXCLUDED_IN_SPAN',
@@ -132,26 +138,27 @@ class Interface(Filling):
             return 21, given
         lent = {key: data for key, data in given.items() if key in OF_CELLS}
         if any(len(data) % 2 for data in lent.values()):
-            return 21, self.said(given, 0, state)
+            return 21, self.said(given, state)
         cells = {key: to_cells(data) for key, data in lent.items()}
         singles = {key: array('I', data) for key, data in given.items() if key == 'numbers'}
         streams = {key: bytearray(data) for key, data in given.items() if key == 'stream'}
         others = {key: data for key, data in given.items() if key not in (*OF_CELLS, 'numbers', 'stream', 'answer')}
         answer = getattr(self, 'call_' + name)(*numbers, **others, **cells, **singles, **streams)
         if answer[0] == 'refused':
-            return answer[1], self.said(given, answer[2], state, answer[3] if name == 'modulate' else 0)
+            return answer[1], self.said(given, state, answer[3] if name == 'modulate' else 0, answer[2])
         left = {key: to_bytes(data) for key, data in cells.items()}
         left.update((key, data.tobytes()) for key, data in singles.items())
         left.update((key, bytes(data)) for key, data in streams.items())
-        return 0, self.said({**given, **left}, 0, *answer)
+        return 0, self.said({**given, **left}, *answer)
 
-    def said(self, given, place, state=(), value=0):
+    def said(self, given, state=(), value=0, place=0):
         """The buffers with the answer written."""
         four = [place, *(*state, 0, 0)[:2], value]
         return {**given, 'answer': b''.join(map(number, four)) + given['answer'][ANSWER:]}
 
     # Each is given cells and answers the model's refusal, or the next state and a value.  That of
-    # the modulator is given the numbers as their 32 bits, and its refusal tells the subcarrier.
+    # the modulator is given the numbers as their 32 bits, and its refusal tells the subcarrier.  That
+    # of a reason answers a phase or a place beside the value.
 
     def call_judge(self, plan):
         answer = self.verdict(plan)
@@ -164,6 +171,14 @@ class Interface(Filling):
     def call_role(self, subcarrier, phase, plan):
         answer = self.role(plan, subcarrier, phase)
         return answer if isinstance(answer, tuple) else ((), 1 + ROLES.index(answer))
+
+    def call_why(self, subcarrier, phase, plan):
+        answer = self.why(plan, subcarrier, phase)
+        if answer[0] == 'refused':
+            return answer
+        *reason, n = answer
+        value = 1 + list(WHYS).index(tuple(reason))
+        return ((n,), value) if reason[1] == 'phase' else ((), value, n)
 
     def call_data_count(self, phase, plan):
         answer = self.data_count(plan, phase)
@@ -500,6 +515,7 @@ def names_of(limits):
     largest = {'EMITTER': emitter_length, 'RECEIVER': receiver_length}
     return {'VERSION': 4, 'ANSWER_BYTES': ANSWER, **{name: 4 * i for i, name in enumerate(four)},
             **{name.upper(): 1 + i for i, name in enumerate(ROLES)},
+            **{'WHY_' + name: 1 + i for i, name in enumerate(WHYS.values())},
             **{'CELL_' + name: mark for name, mark in marks.items()},
             'SUBCARRIERS': limits.last_subcarrier + 1, 'PHASES': limits.phases, 'DEPTH_MAX': limits.highest_m,
             'PLAN_BYTES_MAX': limits.longest, 'SYMBOL_BYTES': 2 * limits.cells, 'NUMBERS': 2 * limits.cells,
@@ -537,6 +553,8 @@ def helpers(cases, phases):
         cases.helper('mark', GIVEN, 1 + i, want=marks['CELL_' + role])
     for load in (*range(256), 256, TOP):
         cases.helper('point_load', GIVEN, load, want=1 if load == 0 else load)
+    for value in (*range(9), 255, 256, 257, TOP):
+        cases.helper('why_role', GIVEN, value, want=WHY_ROLES[value] if value < len(WHY_ROLES) else 0)
     for m in range(1, 33):
         for n in (282, 425, 32 * m, 100 * m + m // 2, 3744, 3745):
             cases.helper('emitter_store_bytes', SAID, n, m, want=2 * sum(p % m for p in range(n)))
@@ -928,6 +946,125 @@ def tried_numbers(cases):
                 assert cases.call('try', first, last, plan=plan, answer=b'\x5A' * room)[0] == 21
             for room in (ANSWER, ANSWER + 1, 999):
                 attempt(cases, plan, first, last, answer=b'\x5A' * room)
+
+
+# --- the reason of a role --------------------------------------------------
+
+# Ranges that overlap, with pilots between them and behind, in records 2, 3, 5, 6, 8, 9, 11 and 12.  The others are off the chain, and
+# each would be a reason.
+OFF_CHAIN = {1: plans.record(2, 2, 0, 799), 4: plans.record(3, 5, 860, 0), 7: plans.record(2, 8, 850, 853),
+             10: plans.record(2, 0, 1200, 4095), 13: plans.record(2, 0, 0, 4095)}
+MIXED = plans.spread([(1, 972, 4), (2, 0, 700), (3, 900, 0), (2, 600, 799), (2, 1241, 4095), (2, 850, 852), (2, 851, 853), (3, 860, 0),
+                      (2, 850, 853)], [0, 2, 3, 5, 6, 8, 9, 11, 12], 14, [OFF_CHAIN.get(i) for i in range(14)])
+# A pilot's record at the last place that there is.
+LAST_PLACE = plans.spread(plans.entries(972, 4, plans.outside(800, 1240), [900]), [0, 256, 257, 511], 512)
+
+
+def known():
+    """(plan, phase, value, its record, distance or phase, subcarriers), worked out by hand."""
+    a, many, largest, singles = plans.PLAN_A, plans.OVERLAPPING_510, plans.LARGEST, plans.SINGLES_150
+    low, high = plans.plan(204, 4, plans.outside(148, 588)), plans.plan(3885, 4, plans.outside(3508, 3948))
+    return ((a, 0, 1, 1, (0, 1, 148, 799)), (a, 127, 1, 2, (1241, 3949, 4095)), (a, 125, 2, 0, range(972, 980)),
+            # the eight predefined pilots, each at the phase at which the pattern meets it
+            (a, 73, 3, 47, (925,)), (a, 85, 3, 35, (937,)), (a, 96, 3, 24, (948,)), (a, 105, 3, 15, (957,)),
+            (a, 14, 4, 15, (994,)), (a, 23, 4, 24, (1003,)), (a, 34, 4, 35, (1014,)), (a, 46, 4, 47, (1026,)),
+            (a, 0, 6, 0, (852, 980, 1108, 1236)), (a, 14, 6, 14, (866, 1122)), (a, 125, 6, 125, (849, 1105, 1233)),
+            (a, 127, 6, 127, (851, 1107, 1235)), (a, 1, 7, 0, (852, 980, 1108, 1236)), (a, 127, 7, 0, (852, 980, 1108, 1236)),
+            (a, 13, 7, 14, (866, 1122)), (a, 15, 7, 14, (866, 1122)), (a, 126, 7, 125, (849, 1105, 1233)),
+            (a, 0, 7, 127, (851, 1107, 1235)), (a, 0, 7, 76, (800,)), (a, 0, 7, 119, (971,)), (a, 0, 7, 4, (1240,)),
+            # the lowest L and the highest
+            (low, 5, 1, 1, (0, 147)), (low, 5, 1, 2, (589, 4095)), (low, 5, 2, 0, (204, 211)), (low, 5, 3, 47, (157,)),
+            (low, 5, 3, 15, (189,)), (low, 5, 4, 15, (226,)), (low, 5, 4, 47, (258,)), (low, 64, 6, 64, (148,)),
+            (low, 63, 7, 64, (148,)), (low, 121, 7, 120, (588,)),
+            (high, 9, 1, 1, (3507,)), (high, 9, 1, 2, (3949,)), (high, 9, 2, 0, (3885, 3892)), (high, 9, 3, 47, (3838,)),
+            (high, 9, 3, 15, (3870,)), (high, 9, 4, 15, (3907,)), (high, 9, 4, 47, (3939,)), (high, 127, 6, 127, (3508,)),
+            (high, 0, 7, 127, (3508,)), (high, 55, 6, 55, (3948,)), (high, 56, 7, 55, (3948,)),
+            # the first record on the chain, and of no other
+            (MIXED, 64, 1, 2, (0, 599, 600, 700)), (MIXED, 64, 1, 5, (701, 799)), (MIXED, 64, 1, 6, (1241, 4095)),
+            (MIXED, 64, 1, 8, (850, 851, 852)), (MIXED, 64, 1, 9, (853,)), (MIXED, 64, 5, 3, (900,)), (MIXED, 64, 5, 11, (860,)),
+            (MIXED, 64, 7, 92, (1200,)), (MIXED, 92, 6, 92, (1200,)), (MIXED, 64, 7, 125, (849,)), (MIXED, 2, 6, 2, (854,)),
+            # the pattern meets the pilots 900 and 860 at 48 and 8, and 850 at 126
+            (MIXED, 48, 5, 3, (900,)), (MIXED, 8, 5, 11, (860,)), (MIXED, 126, 1, 8, (850,)),
+            # records with two bytes
+            (many, 3, 1, 1, (0, 37)), (many, 3, 1, 2, (38, 40)), (many, 3, 1, 3, (41,)), (many, 3, 1, 255, (797, 799)),
+            (many, 3, 1, 256, (1241, 1301)), (many, 3, 1, 257, (1302, 1312)), (many, 3, 1, 258, (1313,)), (many, 3, 1, 510, (4085, 4095)),
+            (LAST_PLACE, 0, 1, 256, (0, 799)), (LAST_PLACE, 0, 1, 257, (1241, 4095)), (LAST_PLACE, 0, 5, 511, (900,)),
+            # 40 pilots, and 150 singles
+            (largest, 77, 5, 3, (200,)), (largest, 77, 5, 42, (590,)), (largest, 77, 1, 1, (147,)), (largest, 77, 1, 2, (3949,)),
+            (singles, 127, 1, 3, (160,)), (singles, 127, 1, 4, (184,)), (singles, 127, 1, 77, (1936,)), (singles, 127, 1, 78, (2070,)),
+            (singles, 127, 1, 152, (3846,)))
+
+
+def reason(cases, plan, k, phase, want=None):
+    """A call of why, and what it has to give where that is said: the value, then the record, the distance or the phase.  The role of
+    the value is the one that the call of role gives.  Answers the value."""
+    returned, after = cases.call('why', k, phase, plan=plan)
+    place, said, heard, value = (int.from_bytes(after['answer'][at:at + 4], 'big') for at in range(0, ANSWER, 4))
+    role = cases.model.call('role', (k, phase), {'plan': plan, 'answer': bytes(ANSWER)})[1]['answer']
+    assert (returned, WHY_ROLES[value]) == (0, value_of(role)), (k, phase, returned, value)
+    if want is not None:
+        n, other = (said, place) if value >= 6 else (place, said)
+        assert (value, n, other, heard) == (*want, 0, 0), (k, phase, want, value, place, said)
+    return value
+
+
+def ends_of(model, plan):
+    """The subcarriers at which a reason of this plan may begin or end, and those beside them."""
+    l = model.judge(plan).l
+    ends = {0, SYMBOL - 1, l, l + 7, *model.predefined(l)}
+    ends.update(k for _, record in model.chain(plan)[1:] for k in (record.first, record.second))
+    return sorted({k + beside for k in ends for beside in (-1, 0, 1)} & set(range(SYMBOL)))
+
+
+def some_accepted(rng, model):
+    """An accepted plan by chance."""
+    plan = compare.good(rng)
+    while isinstance(model.judge(plan), tuple):
+        plan = compare.good(rng)
+    return plan
+
+
+def whys(cases, step, thin, phases, some):
+    """Those that are known; subcarriers in steps of `step`, and of those at the ends of the plan's records one in `thin`; a subcarrier of
+    each role at these phases; `some` plans by chance."""
+    a, rng = plans.PLAN_A, random.Random(22)
+    for plan, phase, value, n, subcarriers in known():
+        cases.name('known reasons')
+        for k in subcarriers:
+            reason(cases, plan, k, phase, (value, n))
+    for plan, phase, every in ((a, 0, 1), (a, 14, 1), (a, 125, 1), (a, 127, 1), (plans.LARGEST, 77, 1), (plans.SINGLES_150, 127, 1),
+                               (MIXED, 64, 1), (plans.OVERLAPPING_510, 3, 10)):
+        cases.name('reasons at phase %d' % phase)
+        for k in sorted({*range(0, SYMBOL, step), *ends_of(cases.model, plan)[::every * thin]}):
+            reason(cases, plan, k, phase)
+    for k, value, met in ((0, 1, None), (975, 2, None), (994, 4, None), (860, 5, None), (1029, 7, 49), (1200, 7, 92)):
+        cases.name('reasons of %d at all phases' % k)
+        for phase in phases:
+            assert reason(cases, MIXED, k, phase) == (6 if phase == met else value)
+    for _ in range(some):
+        cases.name('reasons of a plan by chance')
+        plan = some_accepted(rng, cases.model)
+        for k in rng.sample(ends_of(cases.model, plan), 4):
+            reason(cases, plan, k, rng.randrange(128))
+
+
+def why_grounds(cases):
+    """16 of a subcarrier and of a phase, some of which would be good if they were cut to fewer bytes, after 14; 21 before both; answers
+    of all lengths."""
+    a, refused = plans.PLAN_A, plans.near_a([(850, 854)])
+    far = ((4096, 0), (TOP, 0), (0, 128), (4095, TOP), (4096, 128), (TOP, TOP), (4096 + 866, 14), (65536 + 866, 14), (2 ** 31 + 866, 14),
+           (866, 128 + 14), (866, 256 + 14), (866, 65536 + 14), (866, 2 ** 31 + 14), ODD_NUMBERS)
+    cases.name('the grounds of a reason')
+    for plan, want in ((a, (16, 0)), (MIXED, (16, 0)), (plans.LARGEST, (16, 0)), (refused, (14, 835))):
+        for k, phase in far:
+            returned, after = cases.call('why', k, phase, plan=plan)
+            assert (returned, after['answer'][:ANSWER]) == (want[0], number(want[1]) + bytes(12))
+    for plan in (a, MIXED, refused, b''):
+        for k, phase in ((866, 14), (4096, 0), (0, TOP)):
+            for room in (0, 1, ANSWER - 1):
+                assert cases.call('why', k, phase, plan=plan, answer=b'\x5A' * room)[0] == 21
+            for room in (ANSWER, ANSWER + 1, 999):
+                cases.call('why', k, phase, plan=plan, answer=b'\x5A' * room)
 
 
 # --- loads and streams -----------------------------------------------------
@@ -1455,6 +1592,8 @@ def write(path, small):
     helpers(cases, range(0, 128, 5) if small else range(128))
     verdicts(cases, 0 if small else 600)
     roles(cases, range(0, 4096, 127) if small else range(4096))
+    whys(cases, 512 if small else 11, 7 if small else 1, (0, 48, 49, 50, 92, 127) if small else range(128), 5 if small else 100)
+    why_grounds(cases)
     counts(cases, (0, 1, 63, 127) if small else range(128))
     refused_plans(cases)
     lent_rooms(cases)

@@ -14,7 +14,7 @@ sanitizers="-g -O1 -fsanitize=address,undefined -fno-sanitize-recover=all"
 
 # The header's names as those of another implementation.
 names() {
-    for call in judge try role data_count fresh_emitter fresh_receiver emit flush receive fill unfill modulate; do
+    for call in judge try role why data_count fresh_emitter fresh_receiver emit flush receive fill unfill modulate; do
         echo "-Dheadend_$call=$1_$call"
     done
 }
@@ -61,6 +61,7 @@ void ignored(uint8_t *b, float *numbers)
     headend_judge(b, 0, b, 0);
     headend_try(b, 0, 0, 0, b, 0);
     headend_role(b, 0, 0, 0, b, 0);
+    headend_why(b, 0, 0, 0, b, 0);
     headend_data_count(b, 0, 0, b, 0);
     headend_fresh_emitter(b, 0, 0, b, 0, b, 0);
     headend_fresh_receiver(b, 0, 0, b, 0, b, 0);
@@ -74,7 +75,7 @@ void ignored(uint8_t *b, float *numbers)
 END
     local warned
     warned=$(LC_ALL=C gcc -Iinclude -c "$work/ignored.c" -o "$work/ignored.o" 2>&1 | grep -c 'ignoring return value' || true)
-    [ "$warned" -eq 12 ] || fail "$warned of 12 ignored numbers are warned of"
+    [ "$warned" -eq 13 ] || fail "$warned of 13 ignored numbers are warned of"
 }
 
 # The cases, the two C implementations, wrong programs and wrong headers.

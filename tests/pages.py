@@ -1,12 +1,14 @@
 #!/usr/bin/env python3
-"""Holds docs/REFUSALS.md, docs/PLAN-FILE.md and docs/TRYCHECK.md to the second model and to plans/.
+"""Holds docs/REFUSALS.md, docs/PLAN-FILE.md, docs/TRYCHECK.md and docs/WHYCHECK.md to the second model
+and to plans/.
 
     python3 tests/pages.py
 
 Each ground has its entry with its parts and its limits; each plan that is cited
 gives the line beside it; Plan A stands in PLAN-FILE.md byte for byte, decoded as
 the model decodes it; each word has its entry; each trial on Plan A gives the line
-beside it, and what trycheck tells of wrong words stands there as in its source.
+beside it, and each question that whycheck is asked; what both tell of wrong words
+stands there as in their source.
 Then every cited line, every byte of Plan A and every entry is changed in turn, and
 the change must be noticed.
 """
@@ -172,15 +174,20 @@ def wrong_plan_file(text):
     return wrong + wrong_bytes(text) + wrong_hand(text) + wrong_lines(text)
 
 
+def untold(text, program, words):
+    """Whether what a program tells of wrong words, which begins so, does not stand there as in its source."""
+    source = (ROOT / 'crates' / program / 'src/main.rt').read_text(encoding='utf-8')
+    told = re.search(r'b"(: %s[^"]*)\\n"' % words, source)
+    return not told or '\n    %s%s\n' % (program, told.group(1)) not in text
+
+
 def wrong_trials(text):
     """What is wrong with docs/TRYCHECK.md."""
     trials = re.findall(r'^\| `trycheck (\d+) (\d+)` \| `([^`]+)` \|', text, flags=re.M)
     wrong = ['trycheck %s %s does not print %s' % trial for trial in trials
              if model.trial_line(plan('plan-a.plan'), int(trial[0]), int(trial[1])) != trial[2]]
     wrong += [] if len(trials) == 6 else ['%d trials' % len(trials)]
-    source = (ROOT / 'crates/trycheck/src/main.rt').read_text(encoding='utf-8')
-    told = re.search(r'b"(: two words are expected[^"]*)\\n"', source)
-    if not told or '\n    trycheck%s\n' % told.group(1) not in text:
+    if untold(text, 'trycheck', 'two words are expected'):
         wrong.append('what is told of wrong words is something else')
     return wrong
 
@@ -191,6 +198,44 @@ def bent_trials(text):
         yield text[:found.start(2)] + str(int(found.group(2)) + 1) + text[found.end(2):]
         yield text[:found.start()] + text[text.index('\n', found.start()) + 1:]
     yield text.replace('0 to 65535 in digits, as', '0 to 65536 in digits, as')
+
+
+# A row of docs/WHYCHECK.md: the plan, the words and the line, whose first word, kind of reason and number stand apart.
+QUESTION = r'^\| `([\w.-]+)` \| `whycheck (\d+) (\d+)` \| `((\w+) (\w+) (\d+))` \|'
+KINDS = {'excluded record', 'plc record', 'continuous below', 'continuous above', 'continuous record', 'scattered phase',
+         'data phase', 'refused 14', 'refused 16'}
+
+
+def wrong_whys(text):
+    """What is wrong with docs/WHYCHECK.md."""
+    questions = re.findall(QUESTION, text, flags=re.M)
+    wrong = ['%s: whycheck %s %s does not print %s' % question[:4] for question in questions
+             if model.why_line(plan(question[0]), int(question[1]), int(question[2])) != question[3]]
+    if len(questions) != 10 or {' '.join(question[4:6]) for question in questions} != KINDS:
+        wrong.append('%d questions, or not every case' % len(questions))
+    source = (ROOT / 'crates/whycheck/src/main.rt').read_text(encoding='utf-8')
+    numbers = [re.search(r'const %s: u32 = (\d+);' % name, source) for name in ('SUBCARRIER', 'PHASE')]
+    if 'asks about subcarrier %s at phase %s.' % tuple(found and found.group(1) for found in numbers) not in text:
+        wrong.append('the subcarrier and the phase that are set are others')
+    distances = re.search(r'A distance\*\* is one of (\d+), (\d+), (\d+) and (\d+)\.', text)
+    if not distances or tuple(map(int, distances.groups())) != (X.distance_1, X.distance_2, X.distance_3, X.distance_4):
+        wrong.append('the distances are others')
+    if untold(text, 'whycheck', 'no words or two are expected'):
+        wrong.append('what is told of wrong words is something else')
+    return wrong
+
+
+def bent_whys(text):
+    for found in re.finditer(QUESTION, text, flags=re.M):
+        if found.group(5) != 'refused':
+            yield text[:found.start(2)] + '902' + text[found.end(2):]
+        yield text[:found.start(5)] + 'silent' + text[found.end(5):]
+        yield text[:found.start(7)] + str(int(found.group(7)) + 1) + text[found.end(7):]
+        yield text[:found.start()] + text[text.index('\n', found.start()) + 1:]
+    yield text.replace('asks about subcarrier 948', 'asks about subcarrier 949')
+    yield text.replace('at phase 0. They', 'at phase 1. They')
+    yield text.replace('15, 24, 35 and 47', '15, 24, 36 and 47')
+    yield text.replace('0 to 4294967295 in digits, as', '0 to 65535 in digits, as')
 
 
 def bent_lines(text):
@@ -225,7 +270,7 @@ def bent_plan_file(text):
 def main():
     pages = ((wrong_refusals, bent_refusals, 'REFUSALS.md'),
              (wrong_plan_file, bent_plan_file, 'PLAN-FILE.md'),
-             (wrong_trials, bent_trials, 'TRYCHECK.md'))
+             (wrong_trials, bent_trials, 'TRYCHECK.md'), (wrong_whys, bent_whys, 'WHYCHECK.md'))
     failed = False
     for wrong, bent, name in pages:
         text = (ROOT / 'docs' / name).read_text(encoding='utf-8')

@@ -1,7 +1,8 @@
 #!/usr/bin/env bash
 # What the programs print and tell where they cannot read or write, as docs/PLANCHECK.md says: input closed, a folder, a read that fails in
 # the middle, output closed or full; and what is no failure: input that ends, that comes in small parts, or that is longer than any plan;
-# and what trycheck and linkcheck make of the words that they are given, as docs/TRYCHECK.md and docs/LINKCHECK.md say.
+# and what trycheck, whycheck and linkcheck make of the words that they are given, as docs/TRYCHECK.md, docs/WHYCHECK.md and
+# docs/LINKCHECK.md say.
 # Needs gcc, and the programs, built by `rt check` or `rt ci`.
 #
 #     tests/programs.sh            the programs of target/bin
@@ -84,13 +85,13 @@ words() {
 }
 
 # each PROGRAM LINES LESS FIRST: on its stored input and words it prints these lines; where the last byte is not read LESS of them, and
-# where nothing is read only FIRST. Other words are ignored by all but trycheck and linkcheck.
+# where nothing is read only FIRST. Other words are ignored by all but trycheck, whycheck and linkcheck.
 each() {
     local program=$1 given=crates/$1/stdin unread="$1: standard input cannot be read" run
     run="$bin/$program $(words $program)"
     try $run < "$given"
     said "$program" "$2" ''
-    if [ ! -e "crates/$1/args" ] && [ "$program" != linkcheck ]; then
+    if [ ! -e "crates/$1/args" ] && [ "$program" != linkcheck ] && [ "$program" != whycheck ]; then
         try $run plans/refused-14.plan --help < "$given"
         said "$program with arguments" "$2" ''
     fi
@@ -149,22 +150,42 @@ bench() {
     said "$program on 64 MiB, with the status of their writer" 'refused 1 0' ''
 }
 
-# ranged LINES WORDS ..: trycheck with these words on Plan A prints these lines, and tells nothing.
-ranged() {
-    local lines=$1
-    shift
-    try "$bin/trycheck" "$@" < plans/plan-a.plan
-    said "trycheck with the words: $*" "$lines" ''
+# worded PROGRAM LINES WORDS ..: the program with these words on Plan A prints these lines, and tells nothing.
+worded() {
+    local program=$1 lines=$2
+    shift 2
+    try "$bin/$program" "$@" < plans/plan-a.plan
+    said "$program with the words: $*" "$lines" ''
 }
 
-# unranged WORDS ..: these are no range. trycheck tells what it expects, prints nothing and reads nothing.
+# unworded PROGRAM EXPECTED WORDS ..: these words are wrong. The program tells what it expects, prints nothing and reads nothing.
+unworded() {
+    local program=$1 expected=$2
+    shift 2
+    try "$bin/$program" "$@" < plans/plan-a.plan
+    said "$program with the words: $*" '' "$program: $expected"
+    try "$bin/$program" "$@" <&-
+    said "$program with its input closed and the words: $*" '' "$program: $expected"
+}
+
+# ranged LINES WORDS .. and unranged WORDS ..: of trycheck.
+ranged() {
+    worded trycheck "$@"
+}
+
 unranged() {
-    local expected='trycheck: two words are expected, the first and the last subcarrier of a range, each a number from 0 to 65535 in digits,'
-    expected="$expected as in: trycheck 850 853"
-    try "$bin/trycheck" "$@" < plans/plan-a.plan
-    said "trycheck with the words: $*" '' "$expected"
-    try "$bin/trycheck" "$@" <&-
-    said "trycheck with its input closed and the words: $*" '' "$expected"
+    local expected='two words are expected, the first and the last subcarrier of a range, each a number from 0 to 65535 in digits,'
+    unworded trycheck "$expected as in: trycheck 850 853" "$@"
+}
+
+# reasoned LINES WORDS .. and unreasoned WORDS ..: of whycheck.
+reasoned() {
+    worded whycheck "$@"
+}
+
+unreasoned() {
+    local expected='no words or two are expected, a subcarrier and a phase, each a number from 0 to 4294967295 in digits,'
+    unworded whycheck "$expected as in: whycheck 948 0" "$@"
 }
 
 # The words of trycheck: how many, what they hold, how large and how long they are.
@@ -202,6 +223,49 @@ ranges() {
     unranged 850 18446744073709552469
     unranged "${zeros}0850" 853
     unranged --help
+}
+
+# The words of whycheck: none, or how many, what they hold, how large and how long they are.
+questions() {
+    local zeros
+    zeros=$(printf '%061d' 0)
+    reasoned 'continuous below 24'
+    reasoned 'continuous below 24' 948 0
+    reasoned 'continuous below 24' 948 127
+    reasoned 'excluded record 1' 0 0
+    reasoned 'plc record 0' 979 127
+    reasoned 'continuous above 15' 994 14
+    reasoned 'scattered phase 49' 1029 49
+    reasoned 'data phase 49' 1029 48
+    reasoned 'scattered phase 49' 01029 0049
+    reasoned 'data phase 49' "${zeros:1}1029" "${zeros}048"
+    reasoned 'excluded record 2' 4095 127
+    reasoned 'refused 16 0' 4096 0
+    reasoned 'refused 16 0' 948 128
+    reasoned 'refused 16 0' 66484 0
+    reasoned 'refused 16 0' 4294967295 4294967295
+    try "$bin/whycheck" 4096 128 < plans/refused-14.plan
+    said 'whycheck on a refused plan and numbers out of range' "$("$bin/plancheck" < plans/refused-14.plan)" ''
+    unreasoned 948
+    unreasoned 948 0 0
+    unreasoned '' 0
+    unreasoned 948 ''
+    unreasoned '' ''
+    unreasoned '948 0'
+    unreasoned 948 '0 '
+    unreasoned ' 948' 0
+    unreasoned +948 0
+    unreasoned 948 -0
+    unreasoned -948 0
+    unreasoned 948a 0
+    unreasoned 948 0x0
+    unreasoned 9.48 0
+    unreasoned 4294967296 0
+    unreasoned 948 4294967296
+    unreasoned 4294968244 0
+    unreasoned 18446744073709552564 0
+    unreasoned "${zeros}0948" 0
+    unreasoned --help
 }
 
 # loads FILE LOAD COUNT [PLACE OTHER]: a profile file with so many bytes of this load, one of them another.
@@ -286,26 +350,28 @@ stack() {
     said "$1 with a stack of $2 KiB" "$(cat "crates/$1/stdout")" ''
 }
 
-for program in plancheck trycheck linkcheck; do
+for program in plancheck trycheck whycheck linkcheck; do
     each $program "$(cat crates/$program/stdout)" '' ''
 done
-for program in plancases trycases emitcases receivecases fillcases modulatecases; do
+for program in plancases trycases whycases emitcases receivecases fillcases modulatecases; do
     each $program "$(cat crates/$program/stdout)" "$(sed '$d' crates/$program/stdout)" ''
 done
 each rolecases "$(cat crates/rolecases/stdout)" "$(sed '$d' crates/rolecases/stdout)" "$(head -n 1 crates/rolecases/stdout)"
-for program in plancheck trycheck linkcheck plancases trycases rolecases emitcases receivecases fillcases pointcases modulatecases; do
+for program in plancheck trycheck whycheck linkcheck plancases trycases whycases rolecases emitcases receivecases fillcases pointcases \
+    modulatecases; do
     unwritten $program
 done
-for program in plancheck trycheck linkcheck; do
+for program in plancheck trycheck whycheck linkcheck; do
     bench $program
 done
 ranges
+questions
 profiles
 stopped
 grep -oE '^- `[a-z]+`: [0-9]+ KiB' docs/PLANCHECK.md | tr -d '`:-' > "$work/stacks"
 while read -r program size unit; do
     stack "$program" "$size"
 done < "$work/stacks"
-[ "$(wc -l < "$work/stacks")" -eq 11 ] || differs 'docs/PLANCHECK.md does not give the stack of eleven programs'
+[ "$(wc -l < "$work/stacks")" -eq 13 ] || differs 'docs/PLANCHECK.md does not give the stack of thirteen programs'
 [ $differences -eq 0 ] || { echo "programs.sh: $differences differences in $runs runs"; exit 1; }
 echo "programs.sh: $runs runs, all as said"
