@@ -27,7 +27,7 @@ from stored import ROOT
 # --- wrong expectations ----------------------------------------------------
 
 def few(cases):
-    """Twenty-two calls."""
+    """Twenty-six calls."""
     plan, rng = plans.near_a(M=2), random.Random(6)
     cases.name('few calls')
     cases.call('judge', plan=b'')                                       # 0
@@ -55,6 +55,10 @@ def few(cases):
     given.call('unfill', (19, 7), data=with_cell(given.good['data'], 7, 65535), **exact)    # 19
     given.call('unfill', (21,), answer=bytes(ANSWER - 1))                   # 20
     given.call('emit', (25, 9), profile=with_load(FULL, 9, 5), **exact)     # 21
+    cases.call('why', 866, 15, plan=plan, answer=bytes(32))                 # 22
+    cases.call('why', 994, 14, plan=plan, answer=bytes(ANSWER))             # 23
+    cases.call('why', 866, 128, plan=plan, answer=bytes(ANSWER))            # 24
+    cases.call('why', 866, 15, plan=plan, answer=bytes(ANSWER - 1))         # 25
     return cases
 
 
@@ -99,7 +103,15 @@ BENT = ((0, None, 0, 'a refusal by another number'), (1, None, 0, 'a refusal of 
         (20, 'answer', 0, 'a short answer of a way back written'), (20, 'stream', 1, 'a bit beside a short answer'),
         (21, None, 0, 'a profile refused by another number'), (21, 'answer', 3, 'another place of a wrong load'),
         (21, 'answer', 7, 'another phase after a wrong load'), (21, 'store', 5, 'a store written after a wrong load'),
-        (21, 'symbol', 5, 'a symbol written after a wrong load'))
+        (21, 'symbol', 5, 'a symbol written after a wrong load'),
+        (22, None, 0, 'a refusal of a good question'), (22, 'answer', 15, 'another reason'),
+        (22, 'answer', 7, 'another phase at which a pilot stands there'), (22, 'answer', 3, 'a place beside a phase'),
+        (22, 'answer', 11, 'a number heard beside a reason'), (22, 'answer', 16, 'a byte past the answer'),
+        (22, 'plan', 9, 'a plan changed by a question'), (23, 'answer', 15, 'another reason of a pilot'),
+        (23, 'answer', 3, 'another distance'), (23, 'answer', 7, 'a phase beside a distance'),
+        (24, None, 0, 'a question refused by another number'), (24, 'answer', 3, 'a place of a refused question'),
+        (24, 'answer', 7, 'a phase of a refused question'), (24, 'answer', 15, 'a reason of a refused question'),
+        (25, None, 0, 'a short answer of a question not refused'), (25, 'answer', 0, 'a short answer of a question written'))
 
 
 def bend_of(call, key, at):
@@ -146,6 +158,21 @@ FILL_BEGINS, UNFILL_BEGINS = (
     uint32_t bits;
     if (wrong_buffers""" % (' ' * indent)
     for buffer, indent in (('uint8_t *data, size_t data', 20), ('uint8_t *stream, size_t stream', 22)))
+
+# How a record is drawn for the reason of a role, and how why begins, up to its refusal.
+DRAWN = """\
+        for (unsigned k = first; k <= last; k++)
+            if (by[k] == 0)
+                by[k] = (uint16_t)i;
+"""
+WHY_BEGINS = """\
+    if (wrong_buffers(0, 0, 0, answer_len))
+        return refuse_21(answer, answer_len, NO_STATE);
+    struct refusal r = judge_at(&p, plan, plan_len, subcarrier, phase);
+    if (r.number != 0)
+        return say(answer, r, NO_STATE, 0);
+"""
+WHY_JUDGED = WHY_BEGINS[WHY_BEGINS.index('    struct'):]
 
 # (what stands once in bench/plain.c, what stands there instead)
 WRONG = (
@@ -242,6 +269,68 @@ WRONG = (
      'struct refusal r = judge_with(&p, plan, plan_len, first, last);\n    if (r.number == 0)\n        judge(&p, plan, plan_len);'),
     ('struct refusal r = judge_with(&p, plan, plan_len, first, last);\n    return say(answer, r, NO_STATE,',
      'struct refusal r = judge_with(&p, plan, plan_len, first, last);\n    return say(answer, r, (struct state){first, last},'),
+    # the record of a reason: the last, the one that begins or ends lowest, one off the chain, the one before or behind, a byte of it,
+    # how far on the chain it is; what a record covers
+    (DRAWN, DRAWN.replace('if (by[k] == 0)', 'if (1)')),
+    (DRAWN, DRAWN.replace('by[k] == 0', 'by[k] == 0 || first < get(plan + RECORD * by[k], 2)')),
+    (DRAWN, DRAWN.replace('by[k] == 0', 'by[k] == 0 || last < get(plan + RECORD * by[k], 3)')),
+    ('i = (int)get(plan + RECORD * i, 1);', 'i++;'),
+    (DRAWN, DRAWN.replace('(uint16_t)i', '(uint16_t)(i - 1)')),
+    (DRAWN, DRAWN.replace('(uint16_t)i', '(uint16_t)(i + 1)')),
+    (DRAWN, DRAWN.replace('(uint16_t)i', '(uint8_t)i')),
+    (DRAWN, '        static int on_chain;\n        on_chain = i == (int)get(plan, 1) ? 1 : on_chain + 1;\n'
+     + DRAWN.replace('(uint16_t)i', '(uint16_t)on_chain')),
+    (DRAWN, DRAWN.replace('k <= last', 'k < last')),
+    (DRAWN, DRAWN.replace('k = first', 'k = first + 1')),
+    (DRAWN, DRAWN.replace('k <= last', 'k <= last && record[0] == 3')),
+    ('last = record[0] == 2 ? get(record, 3) : first;', 'last = get(record, 3);'),
+    ('for (int i = 0; i != p->last;) {', 'for (int i = 0; i != p->last && get(plan + RECORD * i, 1) != (unsigned)p->last;) {'),
+    # the distance: from L above the PLC, from the subcarrier after it, from the other end, its number, the subcarrier; its side
+    ('because(PILOT_ABOVE, DISTANCES[i], 0)', 'because(PILOT_ABOVE, k - p->l, 0)'),
+    ('because(PILOT_ABOVE, DISTANCES[i], 0)', 'because(PILOT_ABOVE, k - (p->l + 8), 0)'),
+    ('because(PILOT_BELOW, DISTANCES[i], 0)', 'because(PILOT_BELOW, p->l + 7 - k, 0)'),
+    ('because(PILOT_BELOW, DISTANCES[i], 0)', 'because(PILOT_BELOW, i + 1, 0)'),
+    ('because(PILOT_ABOVE, DISTANCES[i], 0)', 'because(PILOT_ABOVE, k, 0)'),
+    ('because(PILOT_ABOVE, DISTANCES[i], 0)', 'because(PILOT_BELOW, DISTANCES[i], 0)'),
+    ('because(PILOT_BELOW, DISTANCES[i], 0)', 'because(PILOT_ABOVE, DISTANCES[i], 0)'),
+    # a pilot's record for a distance, and a distance for a record; its subcarrier
+    ('because(PILOT_BELOW, DISTANCES[i], 0)', 'because(BY_PILOT, record, 0)'),
+    ('because(PILOT_ABOVE, DISTANCES[i], 0)', 'because(BY_PILOT, DISTANCES[i], 0)'),
+    ('because(BY_PILOT, record, 0)', 'because(k < p->l ? PILOT_BELOW : PILOT_ABOVE, k < p->l ? p->l - k : k - p->l - 7, 0)'),
+    ('because(BY_PILOT, record, 0)', 'because(BY_PILOT, k, 0)'),
+    # the phase: one off, none below 1 or above 63, so many symbols later, the one that was asked; not said, or as a place
+    ('        phase++;\n    return phase;', '        phase++;\n    return (phase + 1) % PHASES;'),
+    ('        phase++;\n    return phase;', '        phase++;\n    return (phase + PHASES - 1) % PHASES;'),
+    ('int phase = 0;\n    while', 'int phase = 1;\n    while'),
+    ('while (phase < PHASES && role', 'while (phase < 64 && role'),
+    ('because(BUT_AT_PHASE, 0, pilot_phase(p, k))', 'because(BUT_AT_PHASE, 0, (pilot_phase(p, k) - phase + PHASES) % PHASES)'),
+    ('because(BUT_AT_PHASE, 0, pilot_phase(p, k))', 'because(BUT_AT_PHASE, 0, phase)'),
+    ('because(BUT_AT_PHASE, 0, pilot_phase(p, k))', 'because(BUT_AT_PHASE, 0, 0)'),
+    ('because(BUT_AT_PHASE, 0, pilot_phase(p, k))', 'because(BUT_AT_PHASE, pilot_phase(p, k), 0)'),
+    ('because(AT_PHASE, 0, phase)', 'because(AT_PHASE, phase, 0)'),
+    ('because(AT_PHASE, 0, phase)', 'because(AT_PHASE, 0, 0)'),
+    # the value: scattered as data, data as scattered, the role's number; PLC with record 1, with L or a phase; a range with a phase
+    ('because(AT_PHASE, 0, phase)', 'because(BUT_AT_PHASE, 0, phase)'),
+    ('because(BUT_AT_PHASE, 0, pilot_phase(p, k))', 'because(AT_PHASE, 0, pilot_phase(p, k))'),
+    ('AT_PHASE = 6, BUT_AT_PHASE = 7', 'AT_PHASE = 4, BUT_AT_PHASE = 5'),
+    ('BY_RANGE = 1, BY_PLC = 2', 'BY_RANGE = 2, BY_PLC = 1'),
+    ('because(BY_PLC, 0, 0)', 'because(BY_PLC, 1, 0)'),
+    ('because(BY_PLC, 0, 0)', 'because(BY_PLC, p->l, 0)'),
+    ('because(BY_PLC, 0, 0)', 'because(BY_PLC, 0, phase)'),
+    ('because(BY_RANGE, by[k], 0)', 'because(BY_RANGE, by[k], phase)'),
+    # the grounds of why: 16 not tried, of a subcarrier or a phase; before the plan's; its place; that of others; a short answer
+    (WHY_JUDGED, WHY_JUDGED.replace('subcarrier', 'subcarrier %= SUBCARRIERS')),
+    (WHY_JUDGED, WHY_JUDGED.replace('phase', 'phase %= PHASES')),
+    (WHY_JUDGED, WHY_JUDGED.replace('= judge_at', '= subcarrier >= SUBCARRIERS || phase >= PHASES ? refuse(16, 0) : judge_at')),
+    (WHY_JUDGED, WHY_JUDGED.replace('    if', '    if (r.number == 16)\n        r.place = subcarrier;\n    if')),
+    (WHY_JUDGED, WHY_JUDGED.replace('    if', '    r.place = 0;\n    if')),
+    (WHY_JUDGED, WHY_JUDGED.replace('NO_STATE', '(struct state){phase, 0}')),
+    (WHY_JUDGED, WHY_JUDGED.replace('NO_STATE, 0', 'NO_STATE, EXCLUDED')),
+    (WHY_BEGINS, WHY_BEGINS.replace('wrong_buffers(0, 0, 0, answer_len)', 'answer_len < ANSWER - 1')),
+    (WHY_BEGINS, WHY_BEGINS.replace('return refuse_21', 'return answer_len == 0 ? 21 : (*answer = 0) + refuse_21')),
+    # its answer: the place lost, the phase as heard
+    ('say(answer, refuse(0, w.place),', 'say(answer, FINE,'),
+    ('(struct state){w.phase, 0}', '(struct state){0, w.phase}'),
     # the profile: its length, which loads are listed, which is named, and when it is tried
     ('if (length != SUBCARRIERS)', 'if (length < SUBCARRIERS)'),
     ('if (length != SUBCARRIERS)', 'if (length / 2 != SUBCARRIERS / 2)'),
@@ -421,6 +510,14 @@ WRONG_HEADER = (
     ('headend_cell(plan, 3)', 'headend_cell(plan, 2)'), ('return HEADEND_CELL_PLC', 'return HEADEND_CELL_EXCLUDED'),
     ('default: return HEADEND_CELL_FILLER', 'default: return HEADEND_CELL_SCATTERED'),
     ('headend_lowest_plc(plan) - 8u', 'headend_lowest_plc(plan)'), ('    return HEADEND_PHASES;', '    return 0;'),
+    ('WHY_EXCLUDED 1', 'WHY_EXCLUDED 0'), ('WHY_PLC 2', 'WHY_PLC 8'), ('WHY_PILOT_BELOW 3', 'WHY_PILOT_BELOW 8'),
+    ('WHY_PILOT_ABOVE 4', 'WHY_PILOT_ABOVE 8'), ('WHY_PILOT_RECORD 5', 'WHY_PILOT_RECORD 8'),
+    ('WHY_SCATTERED 6', 'WHY_SCATTERED 8'), ('WHY_DATA 7', 'WHY_DATA 8'),
+    ('return HEADEND_EXCLUDED;', 'return HEADEND_PLC;'), ('return HEADEND_PLC;', 'return HEADEND_EXCLUDED;'),
+    ('    case HEADEND_WHY_PILOT_BELOW:\n', ''), ('    case HEADEND_WHY_PILOT_ABOVE:\n', ''),
+    ('PILOT_RECORD: return HEADEND_CONTINUOUS;', 'PILOT_RECORD: return HEADEND_SCATTERED;'),
+    ('return HEADEND_SCATTERED;', 'return HEADEND_DATA;'), ('return HEADEND_DATA;', 'return HEADEND_SCATTERED;'),
+    ('default: return 0u;', 'default: return value;'), ('default: return 0u;', 'default: return HEADEND_DATA;'),
 )
 
 

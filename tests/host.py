@@ -950,12 +950,12 @@ def tried_numbers(cases):
 
 # --- the reason of a role --------------------------------------------------
 
-# Ranges that overlap, with pilots between them and behind, in records 2, 3, 5, 6, 8, 9, 11 and 12.  The others are off the chain, and
-# each would be a reason.
+# Ranges that overlap or lie in one another, with pilots between them.  Five records are off the chain, and each would be a reason.
+ON_CHAIN = {0: (1, 972, 4), 2: (2, 0, 700), 3: (3, 900, 0), 5: (2, 600, 799), 6: (2, 1241, 4095), 8: (2, 850, 852), 9: (2, 851, 853),
+            11: (3, 860, 0), 12: (2, 850, 853), 13: (2, 3000, 3100)}
 OFF_CHAIN = {1: plans.record(2, 2, 0, 799), 4: plans.record(3, 5, 860, 0), 7: plans.record(2, 8, 850, 853),
-             10: plans.record(2, 0, 1200, 4095), 13: plans.record(2, 0, 0, 4095)}
-MIXED = plans.spread([(1, 972, 4), (2, 0, 700), (3, 900, 0), (2, 600, 799), (2, 1241, 4095), (2, 850, 852), (2, 851, 853), (3, 860, 0),
-                      (2, 850, 853)], [0, 2, 3, 5, 6, 8, 9, 11, 12], 14, [OFF_CHAIN.get(i) for i in range(14)])
+             10: plans.record(2, 0, 1200, 4095), 14: plans.record(2, 0, 0, 4095)}
+MIXED = plans.spread(list(ON_CHAIN.values()), list(ON_CHAIN), 15, [OFF_CHAIN.get(i) for i in range(15)])
 # A pilot's record at the last place that there is.
 LAST_PLACE = plans.spread(plans.entries(972, 4, plans.outside(800, 1240), [900]), [0, 256, 257, 511], 512)
 
@@ -979,25 +979,26 @@ def known():
             (high, 9, 1, 1, (3507,)), (high, 9, 1, 2, (3949,)), (high, 9, 2, 0, (3885, 3892)), (high, 9, 3, 47, (3838,)),
             (high, 9, 3, 15, (3870,)), (high, 9, 4, 15, (3907,)), (high, 9, 4, 47, (3939,)), (high, 127, 6, 127, (3508,)),
             (high, 0, 7, 127, (3508,)), (high, 55, 6, 55, (3948,)), (high, 56, 7, 55, (3948,)),
-            # the first record on the chain, and of no other
-            (MIXED, 64, 1, 2, (0, 599, 600, 700)), (MIXED, 64, 1, 5, (701, 799)), (MIXED, 64, 1, 6, (1241, 4095)),
+            # the first record on the chain, never one off it
+            (MIXED, 64, 1, 2, (0, 599, 600, 700)), (MIXED, 64, 1, 5, (701, 799)), (MIXED, 64, 1, 6, (1241, 3000, 3100, 4095)),
             (MIXED, 64, 1, 8, (850, 851, 852)), (MIXED, 64, 1, 9, (853,)), (MIXED, 64, 5, 3, (900,)), (MIXED, 64, 5, 11, (860,)),
             (MIXED, 64, 7, 92, (1200,)), (MIXED, 92, 6, 92, (1200,)), (MIXED, 64, 7, 125, (849,)), (MIXED, 2, 6, 2, (854,)),
             # the pattern meets the pilots 900 and 860 at 48 and 8, and 850 at 126
             (MIXED, 48, 5, 3, (900,)), (MIXED, 8, 5, 11, (860,)), (MIXED, 126, 1, 8, (850,)),
             # records with two bytes
             (many, 3, 1, 1, (0, 37)), (many, 3, 1, 2, (38, 40)), (many, 3, 1, 3, (41,)), (many, 3, 1, 255, (797, 799)),
-            (many, 3, 1, 256, (1241, 1301)), (many, 3, 1, 257, (1302, 1312)), (many, 3, 1, 258, (1313,)), (many, 3, 1, 510, (4085, 4095)),
-            (LAST_PLACE, 0, 1, 256, (0, 799)), (LAST_PLACE, 0, 1, 257, (1241, 4095)), (LAST_PLACE, 0, 5, 511, (900,)),
+            (many, 3, 1, 256, (1241, 1301)), (many, 3, 1, 257, (1302, 1312)), (many, 3, 1, 258, (1313,)),
+            (many, 3, 1, 510, (4085, 4095)), (LAST_PLACE, 0, 1, 256, (0, 799)), (LAST_PLACE, 0, 1, 257, (1241, 4095)),
+            (LAST_PLACE, 0, 5, 511, (900,)),
             # 40 pilots, and 150 singles
             (largest, 77, 5, 3, (200,)), (largest, 77, 5, 42, (590,)), (largest, 77, 1, 1, (147,)), (largest, 77, 1, 2, (3949,)),
-            (singles, 127, 1, 3, (160,)), (singles, 127, 1, 4, (184,)), (singles, 127, 1, 77, (1936,)), (singles, 127, 1, 78, (2070,)),
-            (singles, 127, 1, 152, (3846,)))
+            (singles, 127, 1, 3, (160,)), (singles, 127, 1, 4, (184,)), (singles, 127, 1, 77, (1936,)),
+            (singles, 127, 1, 78, (2070,)), (singles, 127, 1, 152, (3846,)))
 
 
 def reason(cases, plan, k, phase, want=None):
-    """A call of why, and what it has to give where that is said: the value, then the record, the distance or the phase.  The role of
-    the value is the one that the call of role gives.  Answers the value."""
+    """A call of why, and what it has to give where that is said: the value, and the record, the distance or the phase.  The
+    role of the value is the one that the call of role gives.  Answers the value."""
     returned, after = cases.call('why', k, phase, plan=plan)
     place, said, heard, value = (int.from_bytes(after['answer'][at:at + 4], 'big') for at in range(0, ANSWER, 4))
     role = cases.model.call('role', (k, phase), {'plan': plan, 'answer': bytes(ANSWER)})[1]['answer']
@@ -1025,17 +1026,18 @@ def some_accepted(rng, model):
 
 
 def whys(cases, step, thin, phases, some):
-    """Those that are known; subcarriers in steps of `step`, and of those at the ends of the plan's records one in `thin`; a subcarrier of
-    each role at these phases; `some` plans by chance."""
+    """Reasons that are known; of several plans the subcarriers in steps of `step`, and of those at the ends of records one in
+    `thin`; a subcarrier of each role at these phases; `some` plans by chance."""
     a, rng = plans.PLAN_A, random.Random(22)
     for plan, phase, value, n, subcarriers in known():
         cases.name('known reasons')
         for k in subcarriers:
             reason(cases, plan, k, phase, (value, n))
-    for plan, phase, every in ((a, 0, 1), (a, 14, 1), (a, 125, 1), (a, 127, 1), (plans.LARGEST, 77, 1), (plans.SINGLES_150, 127, 1),
-                               (MIXED, 64, 1), (plans.OVERLAPPING_510, 3, 10)):
+    for plan, phase in ((a, 0), (a, 14), (a, 125), (a, 127), (plans.LARGEST, 77), (plans.SINGLES_150, 127), (MIXED, 64),
+                        (plans.OVERLAPPING_510, 3)):
         cases.name('reasons at phase %d' % phase)
-        for k in sorted({*range(0, SYMBOL, step), *ends_of(cases.model, plan)[::every * thin]}):
+        every = 10 * thin if plan == plans.OVERLAPPING_510 else thin        # that one has 2,300 ends
+        for k in sorted({*range(0, SYMBOL, step), *ends_of(cases.model, plan)[::every]}):
             reason(cases, plan, k, phase)
     for k, value, met in ((0, 1, None), (975, 2, None), (994, 4, None), (860, 5, None), (1029, 7, 49), (1200, 7, 92)):
         cases.name('reasons of %d at all phases' % k)
@@ -1049,11 +1051,11 @@ def whys(cases, step, thin, phases, some):
 
 
 def why_grounds(cases):
-    """16 of a subcarrier and of a phase, some of which would be good if they were cut to fewer bytes, after 14; 21 before both; answers
-    of all lengths."""
+    """16 of a subcarrier and of a phase, some of which would be good with fewer bits, and after 14; 21 before both; answers of
+    all lengths."""
     a, refused = plans.PLAN_A, plans.near_a([(850, 854)])
-    far = ((4096, 0), (TOP, 0), (0, 128), (4095, TOP), (4096, 128), (TOP, TOP), (4096 + 866, 14), (65536 + 866, 14), (2 ** 31 + 866, 14),
-           (866, 128 + 14), (866, 256 + 14), (866, 65536 + 14), (866, 2 ** 31 + 14), ODD_NUMBERS)
+    far = ((4096, 0), (TOP, 0), (0, 128), (4095, TOP), (4096, 128), (TOP, TOP), ODD_NUMBERS,
+           (4096 + 866, 14), (65536 + 866, 14), (2 ** 31 + 866, 14), (866, 128 + 14), (866, 256 + 14), (866, 2 ** 31 + 14))
     cases.name('the grounds of a reason')
     for plan, want in ((a, (16, 0)), (MIXED, (16, 0)), (plans.LARGEST, (16, 0)), (refused, (14, 835))):
         for k, phase in far:
@@ -1511,7 +1513,7 @@ def check_words():
 
 
 def check_page():
-    """The nine answers that docs/C-HOST.md shows, and its example of a stream."""
+    """The twelve answers that docs/C-HOST.md shows, its table of the reasons, and its example of a stream."""
     model, a, page = Interface(), plans.PLAN_A, (ROOT / 'docs' / 'C-HOST.md').read_text()
     count = model.data_count(a, 126)
     steps = {'plan': a, 'profile': FULL, 'store': bytes(2 * 636), 'symbol': bytes(2 * SYMBOL)}
@@ -1522,12 +1524,16 @@ def check_page():
     for name, numbers, given in (('judge', (), {'plan': a}),
                                  ('judge', (), {'plan': plans.near_a([(850, 854)])}),
                                  ('try', (850, 853), {'plan': a}),
+                                 ('why', (948, 0), {'plan': a}), ('why', (4095, 0), {'plan': a}), ('why', (1029, 48), {'plan': a}),
                                  ('emit', (126,), {**steps, 'data': with_cell(data, 7, 16384)}),
                                  ('emit', (126,), {**steps, 'data': data}),
                                  ('emit', (126,), {**steps, 'data': data, 'profile': with_load(FULL, 905, 5)}),
                                  ('fill', (126, 5), filling), ('fill', (126, 2107), filling), ('modulate', (), line)):
         returned, after = model.call(name, numbers, {**given, 'answer': bytes(ANSWER)})
         shown = '| %d | `%s`' % (returned, after['answer'].hex(' ', 4).upper())
+        assert shown in page, 'docs/C-HOST.md should have ' + shown
+    for value, ((role, _), name) in enumerate(WHYS.items(), 1):
+        shown = '| %d | `HEADEND_WHY_%s` | %s |' % (value, name, role.replace('plc', 'PLC'))
         assert shown in page, 'docs/C-HOST.md should have ' + shown
     check_stream(page)
 

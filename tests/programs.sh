@@ -150,27 +150,28 @@ bench() {
     said "$program on 64 MiB, with the status of their writer" 'refused 1 0' ''
 }
 
-# worded PROGRAM LINES WORDS ..: the program with these words on Plan A prints these lines, and tells nothing.
+# worded PROGRAM LINES TOLD WORDS ..: the program with these words on Plan A prints these lines, and tells this.
 worded() {
-    local program=$1 lines=$2
-    shift 2
+    local program=$1 lines=$2 told=$3
+    shift 3
     try "$bin/$program" "$@" < plans/plan-a.plan
-    said "$program with the words: $*" "$lines" ''
+    said "$program with the words: $*" "$lines" "$told"
 }
 
 # unworded PROGRAM EXPECTED WORDS ..: these words are wrong. The program tells what it expects, prints nothing and reads nothing.
 unworded() {
-    local program=$1 expected=$2
+    local program=$1 expected="$1: $2"
     shift 2
-    try "$bin/$program" "$@" < plans/plan-a.plan
-    said "$program with the words: $*" '' "$program: $expected"
+    worded $program '' "$expected" "$@"
     try "$bin/$program" "$@" <&-
-    said "$program with its input closed and the words: $*" '' "$program: $expected"
+    said "$program with its input closed and the words: $*" '' "$expected"
 }
 
-# ranged LINES WORDS .. and unranged WORDS ..: of trycheck.
+# ranged LINE WORDS .. and unranged WORDS ..: of trycheck.
 ranged() {
-    worded trycheck "$@"
+    local line=$1
+    shift
+    worded trycheck "$line" '' "$@"
 }
 
 unranged() {
@@ -178,9 +179,11 @@ unranged() {
     unworded trycheck "$expected as in: trycheck 850 853" "$@"
 }
 
-# reasoned LINES WORDS .. and unreasoned WORDS ..: of whycheck.
+# reasoned LINE WORDS .. and unreasoned WORDS ..: of whycheck.
 reasoned() {
-    worded whycheck "$@"
+    local line=$1
+    shift
+    worded whycheck "$line" '' "$@"
 }
 
 unreasoned() {
@@ -278,12 +281,9 @@ if other:
 open(name, "wb").write(profile)' "$work/$@"
 }
 
-# profiled LINES TOLD WORDS ..: linkcheck with these words on Plan A prints these lines, and tells this.
+# profiled LINES TOLD WORDS ..: of linkcheck.
 profiled() {
-    local lines=$1 told=$2
-    shift 2
-    try "$bin/linkcheck" "$@" < plans/plan-a.plan
-    said "linkcheck with the words: $*" "$lines" "$told"
+    worded linkcheck "$@"
 }
 
 # The profile of linkcheck: all loads, mixed ones, profiles that are refused, files that cannot be read, and more words than one.

@@ -1,9 +1,9 @@
 -- The answer of `why` from that of `role`: the role that it names, and of an accepted plan what its role is. Assumes nothing.
 use Prim.Native.Nat.{ℕ, _+_, _-_, _<_}
-use mathlib.Core.Path.{_≡_, refl, sym, ap, _∙_}
+use mathlib.Core.Path.{_≡_, refl, ap, _∙_}
 use mathlib.Core.Bool.{Bool, true, false, _||_}
 use mathlib.Core.List.{List}
-use lib.Dec.{ltb, leb}
+use lib.Dec.{ltb}
 use borrow.Author.Tests.{lt-leb}
 use Rattle.counting.proofs.Bools.{by-test}
 use Rattle.rules.specs.declared.Device.{Device}

@@ -1,10 +1,9 @@
 -- Every reason is true. Assumes nothing.
-use Prim.Native.Nat.{ℕ, _+_, _-_, _/_, _<_}
+use Prim.Native.Nat.{ℕ, _/_, _<_}
 use mathlib.Core.Path.{_≡_, refl, sym, ap, _∙_, subst}
 use mathlib.Core.Logic.{inl, inr}
 use mathlib.Core.Bool.{Bool, true, false, _&&_, _||_}
 use mathlib.Core.List.{List}
-use lib.Dec.{ltb}
 use lib.ListN.{length}
 use borrow.Author.Tests.{eqb-true, eqb-false}
 use Rattle.counting.proofs.Bools.{Less, decide, by-test}
@@ -21,7 +20,7 @@ use Rattle.facts.proofs.Framed.{free-ranked}
 use Rattle.roles.proofs.Distances.{pilot-below, pilot-above}
 use Rattle.verdicts.proofs.Verdicts.{no-ground}
 use Rattle.chains.proofs.Steps.{chain-starts}
-use Rattle.reasons.specs.Reasons.{excludes, makesPilot, firstRecord, distanceReason, pilotReason, scatteredPhase, withReason, whyAnswer}
+use Rattle.reasons.specs.Reasons.{excludes, makesPilot, firstRecord, distanceReason, pilotReason, scatteredPhase, withReason}
 use Rattle.reasons.specs.Claims.{FirstOn, putsPlc, OnePhase, Holds, WhyClaims}
 use Rattle.reasons.proofs.Firsts.{on-here, first-from, any-only}
 use Rattle.reasons.proofs.Phases.{onePhase, pattern-is, scattered-phase-is, one-phase}

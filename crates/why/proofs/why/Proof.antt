@@ -12,7 +12,7 @@ use Rattle.rules.specs.Fits.{Fits}
 use Rattle.rules.proofs.Sizes.{khz50-fits}
 use Rattle.reasons.specs.Reasons.{withReason}
 use Rattle.reasons.proofs.Answers.{why-is, why-refused}
-use Rattle.why.proofs.Answered.{Answered, role-answered}
+use Rattle.why.proofs.Answered.{role-answered}
 use Rattle.why.proofs.why.Statement.{statement}
 use Rattle.why.proofs.why.Tie as tie
 
