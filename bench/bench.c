@@ -1,6 +1,6 @@
 /* Times the library beside the two C implementations, all in one run: in each round every implementation makes the same small batch of
  * calls, in turn, and what they leave is compared byte for byte. Each line gives the median round of each, in microseconds a call.
- * With bench/before.c, a library of version 3 runs too: it takes no profile, and has no fill and no unfill.
+ * With bench/before.c, a library of version 3 runs too: it takes no profile, and has no why, no fill and no unfill.
  *
  *     bench PLANS [ROUNDS]
  *
@@ -19,7 +19,7 @@ enum { TURNS = 3 };                                  /* turns of sixteen trunks,
 enum { POOL = 8, MOST_ROUNDS = 4096 };
 enum { RUN = 64 };                                   /* subcarriers of one load, where loads come in runs */
 enum { STREAM = 65536, SYMBOL_BITS = 52430 };        /* bytes of a stream, and the bits that a symbol takes at most */
-enum call { JUDGE, TRY, EMIT, FLUSH, RECEIVE, MODULATE, FILL, UNFILL };
+enum call { JUDGE, TRY, WHY, EMIT, FLUSH, RECEIVE, MODULATE, FILL, UNFILL };
 
 extern const struct calls library, best_gcc, best_clang, plain_gcc, plain_clang, before;
 static const struct calls *const ALL[] = {
@@ -175,6 +175,10 @@ static void make(const struct calls *c, struct bench *b, enum call call, struct 
         b->number[i] = c->try(plan, plan_len, tried_first, tried_last, answer, ANSWER);
         return;
     }
+    if (call == WHY) { /* of the last subcarrier, which the last range excludes */
+        b->number[i] = c->why(plan, plan_len, SUBCARRIERS - 1, (uint32_t)i % PHASES, answer, ANSWER);
+        return;
+    }
     if (call == MODULATE) {
         b->number[i] = modulate(c, b, i, b->numbers);
         return;
@@ -250,8 +254,8 @@ static void arrive(enum call call, int trunks)
 static int has(int n, enum call call)
 {
     const struct calls *c = ALL[n];
-    return (call != TRY || c->try != NULL) && (call != MODULATE || c->modulate != NULL) && (call != FILL || c->fill != NULL) &&
-           (call != UNFILL || c->unfill != NULL);
+    return (call != TRY || c->try != NULL) && (call != WHY || c->why != NULL) && (call != MODULATE || c->modulate != NULL) &&
+           (call != FILL || c->fill != NULL) && (call != UNFILL || c->unfill != NULL);
 }
 
 static void compare(enum call call, int trunks)
@@ -391,7 +395,7 @@ int main(int words, char **word)
         {"largest, M 4", "largest.plan", 4, 850, 853},   {"largest, M 31", "largest.plan", 31, 850, 853},
         {"largest, M 32", "largest.plan", 32, 850, 853}, {"hostile", "overlapping-510.plan", 0, 850, 853},
         {"150 singles", "singles-150.plan", 0, 850, 850}}; /* 850 to 853 would be refused by 13 there */
-    static const char *const calls[] = {"judge", "try", "emit", "flush", "receive"};
+    static const char *const calls[] = {"judge", "try", "why", "emit", "flush", "receive"};
     int rounds = words > 2 ? atoi(word[2]) : 300;
     if (words < 2 || rounds < 1 || rounds > MOST_ROUNDS)
         fail("usage: bench PLANS [ROUNDS]");

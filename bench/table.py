@@ -61,7 +61,7 @@ def main():
             '%.2f' % mid(b for b, _ in plain), plain[0][1],
             '%.2f' % mid(to_best), '%.2f..%.2f' % (min(to_best), max(to_best)),
             '%.2f' % mid(to_plain), '%.2f..%.2f' % (min(to_plain), max(to_plain)), to_before(of),
-            '' if line[1] in ('judge', 'try') else 'ok' if mid(library) <= REAL_TIME else 'over'))
+            '' if line[1] in ('judge', 'try', 'why') else 'ok' if mid(library) <= REAL_TIME else 'over'))
 
 
 if __name__ == '__main__':

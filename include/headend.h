@@ -40,7 +40,8 @@ extern "C" {
 #define HEADEND_PLACE 0  /* the place of a refusal; of headend_why else a record or a distance */
 #define HEADEND_PHASE 4  /* the state of the next step: phase (of headend_why that of a scattered pilot), */
 #define HEADEND_HEARD 8  /* and of a receiver the symbols heard, up to M - 1 */
-#define HEADEND_VALUE 12 /* N_I, N_D, the number of data cells handed out or of bits, a role, or the subcarrier of a refusal by 22 or 23 */
+#define HEADEND_VALUE 12 /* N_I, N_D, the number of data cells handed out or of bits, a role, of headend_why a role with its reason, or the
+                            subcarrier of a refusal by 22 or 23 */
 
 /* The roles of a subcarrier, in the order in which the first that applies is taken. */
 #define HEADEND_EXCLUDED 1
