@@ -20,7 +20,7 @@ use rules::Role;
 use rules::RoleAnswer;
 
 // What a record may do to a subcarrier.
-pub enum Effect {
+enum Effect {
     Excludes,
     MakesPilot,
 }
