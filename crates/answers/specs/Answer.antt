@@ -1,11 +1,6 @@
--- What a call for a C host returns and writes into its answer buffer (request 01; docs/C-HOST.md): 01's number and values for each answer
--- of an entry, and their layout as bytes. Assumes nothing.
-use Prim.Native.Nat.{ℕ, _/_, _%_}
-use mathlib.Core.Bool.{Bool}
-use mathlib.Core.List.{List, [], _∷_, _++_}
-use lib.Dec.{ltb}
-use lib.ListN.{length}
-use lib.Seq.{sets}
+-- What a call for a C host returns and tells (request 01; docs/C-HOST.md): 01's number and values for each answer of an entry. What an answer
+-- does not give is 0. Assumes nothing.
+use Prim.Native.Nat.{ℕ}
 use Rattle.rules.specs.declared.Role.{Role}
 use Rattle.rules.specs.declared.Role.the-variants.{Excluded, Plc, Continuous, Scattered, Data}
 use Rattle.rules.specs.declared.Verdict.{Verdict}
@@ -22,31 +17,11 @@ use Rattle.rules.specs.declared.SendAnswer.{SendAnswer}
 use Rattle.rules.specs.declared.SendAnswer.the-variants as a-send
 use Rattle.rules.specs.declared.ReceiveAnswer.{ReceiveAnswer}
 use Rattle.rules.specs.declared.ReceiveAnswer.the-variants as a-receive
-use Rattle.reasons.specs.declared.WhyAnswer.{WhyAnswer}
-use Rattle.reasons.specs.declared.WhyAnswer.the-variants as a-why
+use Rattle.rules.specs.declared.WhyAnswer.{WhyAnswer}
+use Rattle.rules.specs.declared.WhyAnswer.the-variants as a-why
 use Rattle.modulator.specs.declared.ModulateAnswer.{ModulateAnswer}
 use Rattle.modulator.specs.declared.ModulateAnswer.the-variants as a-modulate
-use Rattle.answers.specs.declared.Told.{Told}
-
--- ---- the layout
-
--- a number as four bytes, high byte first
-unfoldable pub four : ℕ → List ℕ
-four x = (x / 16777216) ∷ (x / 65536 % 256) ∷ (x / 256 % 256) ∷ (x % 256) ∷ []
-
--- place, phase, heard and value, four bytes each
-unfoldable pub layout : Told → List ℕ
-layout t = four (t .place) ++ four (t .phase) ++ four (t .heard) ++ four (t .value)
-
--- 21: too short an answer buffer
-unfoldable pub short : List ℕ → Bool
-short a = ltb (length a) 16
-
--- the answer at the start of the buffer; bytes past it are untouched
-unfoldable pub written : List ℕ → Told → List ℕ
-written a t = sets a 0 (layout t)
-
--- ---- the numbers of each answer; what an answer does not give is 0
+use Rattle.answerbytes.specs.declared.Told.{Told}
 
 abbrev pub roleNumber : Role → ℕ
 roleNumber Excluded = 1

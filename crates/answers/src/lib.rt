@@ -1,12 +1,9 @@
-// The layout of an answer to a C host: the numbers of each answer of an entry (`told_verdict` and the others), and `tell`, which writes them
-// as 16 bytes. `tell` asks for a buffer of that length: its callers have tried it.
+// The numbers that a C host is told of each answer of an entry: what a call returns, and the four numbers of its answer buffer. Crate
+// answerbytes lays them out.
 ghost use mathlib.Core.Path.{_≡_};
-ghost use Prim.Native.Nat.{_+_, _≤_};
-ghost use lib.ListN.{length};
-ghost use lib.Seq.{sets};
-ghost use Rattle.answers.specs.Answer.{four, written, roleNumber, valued, refusal, reasoned, toldVerdict, toldRole, toldWhy, toldCount, toldStart, toldListen, toldSend, toldReceive, toldModulate};
+ghost use Rattle.answers.specs.Answer.{roleNumber, valued, refusal, reasoned, toldVerdict, toldRole, toldWhy, toldCount, toldStart, toldListen, toldSend, toldReceive, toldModulate};
+use answerbytes::Told;
 use modulator::ModulateAnswer;
-use reasons::WhyAnswer;
 use rules::CountAnswer;
 use rules::ListenAnswer;
 use rules::ReceiveAnswer;
@@ -16,15 +13,7 @@ use rules::RoleAnswer;
 use rules::SendAnswer;
 use rules::StartAnswer;
 use rules::Verdict;
-
-// An answer in numbers: what is returned, and what goes to the answer buffer.
-pub struct Told {
-    pub number: u32,
-    pub place: u32,
-    pub phase: u32,
-    pub heard: u32,
-    pub value: u32,
-}
+use rules::WhyAnswer;
 
 // A value, and no state.
 fn valued(value: u32) -> Told
@@ -212,28 +201,4 @@ pub fn told_modulate(a: ModulateAnswer) -> Told
             value: subcarrier,
         },
     }
-}
-
-// Writes a number as four bytes, high byte first.
-fn put_four(a: &mut [u8], at: usize, x: u32)
-    requires { ⌜ at + 4 ≤ length (now a) ⌝ }
-    ensures { λ _. ⌜ now (a .exit) ≡ sets (now (a .entry)) at (four x) ⌝ }
-{
-    a[at] = (x / 16777216) as u8;
-    a[at + 1] = (x / 65536 % 256) as u8;
-    a[at + 2] = (x / 256 % 256) as u8;
-    a[at + 3] = (x % 256) as u8;
-}
-
-// Lays the answer out at the start of the buffer, and returns its number.
-pub fn tell(a: &mut [u8], t: Told) -> u32
-    requires { ⌜ 16 ≤ length (now a) ⌝ }
-    ensures number { λ r. ⌜ r ≡ t .number ⌝ }
-    ensures answer { λ r. ⌜ now (a .exit) ≡ written (now (a .entry)) t ⌝ }
-{
-    put_four(a, 0, t.place);
-    put_four(a, 4, t.phase);
-    put_four(a, 8, t.heard);
-    put_four(a, 12, t.value);
-    t.number
 }

@@ -28,8 +28,9 @@ use Rattle.facts.specs.Roomy.{Roomy}
 use Rattle.facts.proofs.Sizes.{khz50-roomy}
 use Rattle.bytecells.specs.Octets.{cellsOf, odd}
 use Rattle.bytecells.specs.ByteSteps.{startBytes, listenBytes, emitBytes, flushBytes, receiveBytes, fillBytes, unfillBytes}
-use Rattle.answers.specs.declared.Told.{Told}
-use Rattle.answers.specs.Answer.{short, toldCount, toldStart, toldListen, toldSend, toldReceive}
+use Rattle.answerbytes.specs.declared.Told.{Told}
+use Rattle.answerbytes.specs.Layout.{short}
+use Rattle.answers.specs.Answer.{toldCount, toldStart, toldListen, toldSend, toldReceive}
 use Rattle.runs.specs.Run.{isStarted, isListening, isSent, isReceived}
 use Rattle.runs.specs.Demand3.{Demand3}
 use Rattle.runs.specs.Claims.{PlanClaims}

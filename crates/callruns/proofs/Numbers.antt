@@ -35,8 +35,8 @@ use Rattle.rules.specs.Receive as receive
 use Rattle.rules.specs.Receive.{Receiver, Arrival, Receiving, Listening, listens, turnedAway, shortBuffer, wrongCell, receiverGround16, receiverGround17, ground20, receiveGrounds, received, frameReceive, frameListen, hearStep, listenStep}
 use Rattle.copies.specs.Copy.{copyWith}
 use Rattle.exclusion.specs.Trial.{trialVerdict, tooLarge, trialOfNumbers}
-use Rattle.reasons.specs.declared.WhyAnswer.{WhyAnswer}
-use Rattle.reasons.specs.declared.WhyAnswer.the-variants as a-why
+use Rattle.rules.specs.declared.WhyAnswer.{WhyAnswer}
+use Rattle.rules.specs.declared.WhyAnswer.the-variants as a-why
 use Rattle.reasons.specs.Reasons.{whyAnswer, named}
 use Rattle.reasons.proofs.Answers.{same-role}
 use Rattle.answers.specs.Answer.{toldVerdict, toldRole, toldWhy, toldCount, toldStart, toldListen, toldSend, toldReceive}

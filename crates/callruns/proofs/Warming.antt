@@ -24,8 +24,9 @@ use Rattle.facts.specs.Roomy.{Roomy}
 use Rattle.facts.proofs.Data.{some-data}
 use Rattle.bytecells.specs.Octets.{cellsOf, odd}
 use Rattle.bytecells.specs.ByteSteps.{receiveBytes}
-use Rattle.answers.specs.declared.Told.{Told}
-use Rattle.answers.specs.Answer.{four, layout, short, written, toldReceive}
+use Rattle.answerbytes.specs.declared.Told.{Told}
+use Rattle.answerbytes.specs.Layout.{four, layout, short, written}
+use Rattle.answers.specs.Answer.{toldReceive}
 use Rattle.runs.specs.Run.{isReceived}
 use Rattle.headend.specs.Calls.{says, StepSaid, saysStep, receiveTold, receiveCall}
 use Rattle.callruns.specs.Host.{isWarming, numberIn, valueIn, ZeroIsWarming}

@@ -22,8 +22,9 @@ use Rattle.bytecells.specs.ByteSteps.{startBytes, listenBytes, emitBytes, flush
 use Rattle.bytemodulate.specs.ByteSymbols.{modulateBytes}
 use Rattle.exclusion.specs.Trial.{trialOfNumbers}
 use Rattle.reasons.specs.Reasons.{whyAnswer}
-use Rattle.answers.specs.declared.Told.{Told}
-use Rattle.answers.specs.Answer.{short, written, toldVerdict, toldRole, toldWhy, toldCount, toldStart, toldListen, toldSend, toldReceive}
+use Rattle.answerbytes.specs.declared.Told.{Told}
+use Rattle.answerbytes.specs.Layout.{short, written}
+use Rattle.answers.specs.Answer.{toldVerdict, toldRole, toldWhy, toldCount, toldStart, toldListen, toldSend, toldReceive}
 use Rattle.runs.specs.Run.{isStarted, isListening, isSent, isReceived}
 use Rattle.headend.specs.Calls.{Said, says, StoreSaid, saysStore, StepSaid, saysStep, NumbersSaid, saysNumbers, FillSaid, saysFill, fillTold, startTold, listenTold, sendTold, receiveTold, modulateTold, judgeCall, tryCall, roleCall, whyCall, countCall, startCall, listenCall, emitCall, flushCall, receiveCall, fillCall, unfillCall, modulateCall}
 use Rattle.callruns.specs.Host.{isAccepted, isRole, isReasoned, isCount, isModulated, ZeroIsAccepted}

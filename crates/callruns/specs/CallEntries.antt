@@ -22,8 +22,8 @@ use Rattle.rules.specs.Steps.{Emitter, Sending, leaves, Starting, starts}
 use Rattle.rules.specs.Receive.{Receiver, Arrival, Receiving, hears, Listening, listens}
 use Rattle.rules.specs.Filling.{Filling, fills}
 use Rattle.bytecells.specs.Octets.{cellsOf, odd}
-use Rattle.answers.specs.declared.Told.{Told}
-use Rattle.answers.specs.Answer.{short}
+use Rattle.answerbytes.specs.declared.Told.{Told}
+use Rattle.answerbytes.specs.Layout.{short}
 use Rattle.headend.specs.Calls.{Said, StoreSaid, StepSaid, FillSaid, startCall, listenCall, emitCall, flushCall, receiveCall, fillCall, unfillCall}
 use Rattle.runs.specs.Run.{Entries}
 use Rattle.callruns.specs.Host.{numberIn}

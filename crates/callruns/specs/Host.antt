@@ -24,10 +24,10 @@ use Rattle.rules.specs.Answers.{roleAnswer}
 use Rattle.rules.specs.Steps.{dataCountAnswer}
 use Rattle.bytecells.specs.ByteSteps.{startBytes, listenBytes, emitBytes, flushBytes, receiveBytes, fillBytes, unfillBytes}
 use Rattle.bytemodulate.specs.ByteSymbols.{modulateBytes}
-use Rattle.answers.specs.Answer.{short}
+use Rattle.answerbytes.specs.Layout.{short}
 use Rattle.runs.specs.Run.{isStarted, isListening, isSent, isReceived}
 use Rattle.exclusion.specs.Trial.{trialOfNumbers}
-use Rattle.reasons.specs.declared.WhyAnswer.{WhyAnswer}
+use Rattle.rules.specs.declared.WhyAnswer.{WhyAnswer}
 use Rattle.reasons.specs.Reasons.{whyAnswer, named}
 use Rattle.headend.specs.Calls.{judgeCall, tryCall, roleCall, whyCall, countCall, startCall, listenCall, emitCall, flushCall, receiveCall, fillCall, unfillCall, modulateCall}
 

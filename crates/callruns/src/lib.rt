@@ -9,7 +9,7 @@ ghost use Rattle.rules.specs.Device.{khz50};
 ghost use Rattle.rules.specs.Plan.{planOf};
 ghost use Rattle.rules.specs.Grounds.{verdict};
 ghost use Rattle.rules.specs.Frame.{frameOf};
-ghost use Rattle.answers.specs.Answer.{short};
+ghost use Rattle.answerbytes.specs.Layout.{short};
 ghost use Rattle.runs.specs.Demand3.{Demand3};
 ghost use Rattle.runs.specs.Claims.{PlanClaims};
 ghost use Rattle.callruns.specs.Host.{ZeroIsAccepted, ZeroIsWarming};

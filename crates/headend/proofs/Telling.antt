@@ -13,8 +13,9 @@ use Rattle.rules.specs.declared.CountAnswer.{CountAnswer}
 use Rattle.rules.specs.Filling.{Filling, fills}
 use Rattle.modulator.specs.declared.ModulateAnswer.{ModulateAnswer}
 use Rattle.modulator.specs.Symbols.{Modulating, modulates}
-use Rattle.answers.specs.declared.Told.{Told}
-use Rattle.answers.specs.Answer.{written, toldStart, toldListen, toldSend, toldReceive, toldCount, toldModulate}
+use Rattle.answerbytes.specs.declared.Told.{Told}
+use Rattle.answerbytes.specs.Layout.{written}
+use Rattle.answers.specs.Answer.{toldStart, toldListen, toldSend, toldReceive, toldCount, toldModulate}
 use Rattle.headend.specs.Calls.{says, saysStore, saysStep, saysNumbers, startTold, listenTold, sendTold, receiveTold, modulateTold, saysFill, fillTold}
 
 -- what a call returns and writes of the answer t

@@ -15,8 +15,9 @@ use Rattle.reasons.specs.Reasons.{whyAnswer}
 use Rattle.bytecells.specs.ByteSteps.{startBytes, listenBytes, emitBytes, flushBytes, receiveBytes, fillBytes, unfillBytes}
 use Rattle.modulator.specs.Symbols.{Modulating}
 use Rattle.bytemodulate.specs.ByteSymbols.{modulateBytes}
-use Rattle.answers.specs.declared.Told.{Told}
-use Rattle.answers.specs.Answer.{short, written, toldVerdict, toldRole, toldWhy, toldCount, toldStart, toldListen, toldSend, toldReceive, toldModulate}
+use Rattle.answerbytes.specs.declared.Told.{Told}
+use Rattle.answerbytes.specs.Layout.{short, written}
+use Rattle.answers.specs.Answer.{toldVerdict, toldRole, toldWhy, toldCount, toldStart, toldListen, toldSend, toldReceive, toldModulate}
 
 -- what a call returns, and what it leaves in the answer buffer
 pub record Said : Type 0 where

@@ -1,6 +1,6 @@
 // The calls for a C host, numbers and buffers of bytes or single-precision numbers only: include/headend.h, docs/C-HOST.md. Each is thin:
-// it tries the length of the answer buffer, calls the proved entry over plan bytes or two-byte cells, and has crate answers lay its answer
-// out in the buffer.
+// it tries the length of the answer buffer, calls the proved entry over plan bytes or two-byte cells, and has crates answers and
+// answerbytes lay its answer out in the buffer.
 ghost use mathlib.Core.Path.{_≡_};
 ghost use Rattle.rules.specs.Device.{khz50};
 ghost use Rattle.headend.specs.Calls.{says, saysStore, saysStep, saysFill, saysNumbers, judgeCall, tryCall, roleCall, whyCall, countCall, startCall, listenCall, emitCall, flushCall, receiveCall, fillCall, unfillCall, modulateCall};
@@ -18,7 +18,7 @@ pub extern "C" fn headend_judge(plan: &[u8], answer: &mut [u8]) -> u32
     if answer.len() < ANSWER {
         return 21;
     }
-    answers::tell(answer, answers::told_verdict(judge::judge(plan)))
+    answerbytes::tell(answer, answers::told_verdict(judge::judge(plan)))
 }
 
 // What one more excluded range would do to a plan.
@@ -29,7 +29,7 @@ pub extern "C" fn headend_try(plan: &[u8], first: u32, last: u32, answer: &mut [
     if answer.len() < ANSWER {
         return 21;
     }
-    answers::tell(
+    answerbytes::tell(
         answer,
         answers::told_verdict(exclusion::try_numbers(plan, first, last)),
     )
@@ -43,7 +43,7 @@ pub extern "C" fn headend_role(plan: &[u8], subcarrier: u32, phase: u32, answer:
     if answer.len() < ANSWER {
         return 21;
     }
-    answers::tell(
+    answerbytes::tell(
         answer,
         answers::told_role(judge::role(plan, subcarrier, phase)),
     )
@@ -57,7 +57,7 @@ pub extern "C" fn headend_why(plan: &[u8], subcarrier: u32, phase: u32, answer: 
     if answer.len() < ANSWER {
         return 21;
     }
-    answers::tell(answer, answers::told_why(why::why(plan, subcarrier, phase)))
+    answerbytes::tell(answer, answers::told_why(why::why(plan, subcarrier, phase)))
 }
 
 // N_D at a phase.
@@ -68,7 +68,7 @@ pub extern "C" fn headend_data_count(plan: &[u8], phase: u32, answer: &mut [u8])
     if answer.len() < ANSWER {
         return 21;
     }
-    answers::tell(answer, answers::told_count(cells::data_count(plan, phase)))
+    answerbytes::tell(answer, answers::told_count(cells::data_count(plan, phase)))
 }
 
 // Fills a store as a fresh emitter's at a phase.
@@ -84,7 +84,7 @@ pub extern "C" fn headend_fresh_emitter(
     if answer.len() < ANSWER {
         return 21;
     }
-    answers::tell(
+    answerbytes::tell(
         answer,
         answers::told_start(bytefresh::fresh_emitter(plan, phase, store)),
     )
@@ -103,7 +103,7 @@ pub extern "C" fn headend_fresh_receiver(
     if answer.len() < ANSWER {
         return 21;
     }
-    answers::tell(
+    answerbytes::tell(
         answer,
         answers::told_listen(bytefresh::fresh_receiver(plan, phase, store)),
     )
@@ -126,7 +126,7 @@ pub extern "C" fn headend_emit(
         return 21;
     }
     let state = EmitterState { phase };
-    answers::tell(
+    answerbytes::tell(
         answer,
         answers::told_send(byteemitter::emit(plan, profile, state, store, input, symbol)),
     )
@@ -147,7 +147,7 @@ pub extern "C" fn headend_flush(
         return 21;
     }
     let state = EmitterState { phase };
-    answers::tell(
+    answerbytes::tell(
         answer,
         answers::told_send(byteemitter::flush(plan, state, store, symbol)),
     )
@@ -171,7 +171,7 @@ pub extern "C" fn headend_receive(
         return 21;
     }
     let state = ReceiverState { phase, heard };
-    answers::tell(
+    answerbytes::tell(
         answer,
         answers::told_receive(bytereceiver::receive(plan, profile, state, store, symbol, buffer)),
     )
@@ -193,7 +193,7 @@ pub extern "C" fn headend_fill(
     if answer.len() < ANSWER {
         return 21;
     }
-    answers::tell(
+    answerbytes::tell(
         answer,
         answers::told_count(bytefilling::fill(plan, profile, phase, stream, start, input)),
     )
@@ -215,7 +215,7 @@ pub extern "C" fn headend_unfill(
     if answer.len() < ANSWER {
         return 21;
     }
-    answers::tell(
+    answerbytes::tell(
         answer,
         answers::told_count(bytefilling::unfill(plan, profile, phase, input, start, stream)),
     )
@@ -235,7 +235,7 @@ pub extern "C" fn headend_modulate(
     if answer.len() < ANSWER {
         return 21;
     }
-    answers::tell(
+    answerbytes::tell(
         answer,
         answers::told_modulate(bytemodulate::modulate(symbol, loads, minus, out)),
     )

@@ -18,8 +18,8 @@ use Rattle.rules.specs.Plan.{planOf}
 use Rattle.rules.specs.Roles.{oneOf, predefined, role}
 use Rattle.rules.specs.Grounds.{grounds1to15}
 use Rattle.rules.specs.Answers.{roleIn, roleAnswer}
-use Rattle.reasons.specs.declared.WhyAnswer.{WhyAnswer}
-use Rattle.reasons.specs.declared.WhyAnswer.the-variants.{PilotBelow, PilotAbove, PilotBy, Refused}
+use Rattle.rules.specs.declared.WhyAnswer.{WhyAnswer}
+use Rattle.rules.specs.declared.WhyAnswer.the-variants.{PilotBelow, PilotAbove, PilotBy, Refused}
 use Rattle.reasons.specs.Reasons.{makesPilot, firstRecord, distanceReason, pilotReason, withReason, whyAnswer, named}
 
 -- why a subcarrier is a continuous pilot, by the tests

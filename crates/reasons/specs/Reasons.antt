@@ -16,8 +16,8 @@ use Rattle.rules.specs.Bands.{covers}
 use Rattle.rules.specs.Roles.{oneOf, predefined, names, role}
 use Rattle.rules.specs.Answers.{roleAnswer}
 use Rattle.frame.specs.Counted.{isScattered}
-use Rattle.reasons.specs.declared.WhyAnswer.{WhyAnswer}
-use Rattle.reasons.specs.declared.WhyAnswer.the-variants.{ExcludedBy, PlcBy, PilotBelow, PilotAbove, PilotBy, ScatteredOnly, DataBut, Refused}
+use Rattle.rules.specs.declared.WhyAnswer.{WhyAnswer}
+use Rattle.rules.specs.declared.WhyAnswer.the-variants.{ExcludedBy, PlcBy, PilotBelow, PilotAbove, PilotBy, ScatteredOnly, DataBut, Refused}
 
 -- "the record that excludes it": of kind 2, and its range covers k
 abbrev pub excludes : ℕ → Entry → Bool

@@ -63,6 +63,25 @@ pub enum RoleAnswer {
     Refused(u32, u32),
 }
 
+// The answer to what a subcarrier is doing at a phase, and why: its role with the reason, or refused with number and place.
+pub enum WhyAnswer {
+    // excluded, by this record, the first such on the chain
+    ExcludedBy(u32),
+    // PLC, by this record, which is record 0
+    PlcBy(u32),
+    // continuous: a predefined pilot, at this distance below L
+    PilotBelow(u32),
+    // continuous: a predefined pilot, at this distance above the last PLC subcarrier
+    PilotAbove(u32),
+    // continuous: a further pilot, by this record, the first such on the chain
+    PilotBy(u32),
+    // scattered, at this phase, the one asked about, and at no other
+    ScatteredOnly(u32),
+    // data, at every phase but this one, at which a scattered pilot stands there
+    DataBut(u32),
+    Refused(u32, u32),
+}
+
 // The answer to how many: a count, or refused with number and place.
 pub enum CountAnswer {
     Count(u32),

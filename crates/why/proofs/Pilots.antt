@@ -8,7 +8,7 @@ use borrow.Author.Tests.{lt-ltb, le-ltb}
 use Rattle.rules.specs.declared.Device.{Device}
 use Rattle.rules.specs.Plan.{planOf}
 use Rattle.rules.specs.Roles.{oneOf, predefined}
-use Rattle.reasons.specs.declared.WhyAnswer.the-variants.{PilotBelow, PilotAbove, PilotBy}
+use Rattle.rules.specs.declared.WhyAnswer.the-variants.{PilotBelow, PilotAbove, PilotBy}
 use Rattle.reasons.specs.Reasons.{makesPilot, firstRecord, pilotReason}
 use Rattle.reasons.proofs.Answers.{below-is, above-is, predefined-is, further-is}
 

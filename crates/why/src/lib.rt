@@ -13,11 +13,11 @@ ghost use Rattle.rules.specs.Grounds.{badLength, grounds1to15};
 ghost use Rattle.records.specs.Read.{entryOf};
 ghost use Rattle.reasons.specs.Reasons.{excludes, makesPilot, firstRecord, pilotReason, scatteredPhase, withReason, whyAnswer};
 ghost use Rattle.why.specs.Effects.{effectOf};
-use reasons::WhyAnswer;
 use records::Record;
 use rules::Device;
 use rules::Role;
 use rules::RoleAnswer;
+use rules::WhyAnswer;
 
 // What a record may do to a subcarrier.
 enum Effect {

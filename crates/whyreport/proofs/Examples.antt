@@ -2,7 +2,7 @@
 use mathlib.Core.Path.{_≡_, refl}
 use mathlib.Core.List.{[], _∷_}
 use Rattle.text.specs.Text.{spelled, decimal, numberLine}
-use Rattle.reasons.specs.declared.WhyAnswer.the-variants.{ExcludedBy, PilotBelow, DataBut}
+use Rattle.rules.specs.declared.WhyAnswer.the-variants.{ExcludedBy, PilotBelow, DataBut}
 use Rattle.whyreport.specs.WhyLine.{answerLine}
 
 pub excluded-line : answerLine (ExcludedBy 1) ≡ 101 ∷ 120 ∷ 99 ∷ 108 ∷ 117 ∷ 100 ∷ 101 ∷ 100 ∷ 32 ∷ 114 ∷ 101 ∷ 99 ∷ 111 ∷ 114 ∷ 100 ∷ 32 ∷ 49 ∷ 10 ∷ []

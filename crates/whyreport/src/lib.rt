@@ -3,7 +3,7 @@ ghost use mathlib.Core.Path.{_≡_};
 ghost use Rattle.io.specs.Counts.{Counts};
 ghost use Rattle.text.specs.Bytes.{written};
 ghost use Rattle.whyreport.specs.WhyLine.{answerLine, whyLine};
-use reasons::WhyAnswer;
+use rules::WhyAnswer;
 use text::Line;
 
 // The line of an answer of `why`.

@@ -3,7 +3,7 @@ use borrow.Author.Needs.{needs}
 use mathlib.Core.Path.{ap, _∙_}
 use native.Mathlib.Omega.{arith}
 use Rattle.answers.specs.Answer.{toldWhy}
-use Rattle.answers.proofs.LayoutLaws.{too-short, long-enough}
+use Rattle.answerbytes.proofs.LayoutLaws.{too-short, long-enough}
 use Rattle.headend.specs.Calls.{whyCall}
 use Rattle.headend.proofs.Telling.{told}
 use Rattle.headend.proofs.headend_why.Statement.{statement}

@@ -8,7 +8,7 @@ use Rattle.rules.specs.Plan.{planOf}
 use Rattle.rules.specs.Roles.{oneOf, predefined}
 use Rattle.facts.proofs.Accepted.{good-length, long, plc-in}
 use Rattle.roles.proofs.Distances.{pilot-past}
-use Rattle.reasons.specs.declared.WhyAnswer.the-variants.{PilotAbove, PilotBy}
+use Rattle.rules.specs.declared.WhyAnswer.the-variants.{PilotAbove, PilotBy}
 use Rattle.why.proofs.Pilots.{by-record, by-below, by-above}
 use Rattle.why.proofs.pilot_reason.Statement.{statement}
 use Rattle.why.proofs.pilot_reason.Tie as tie

@@ -3,7 +3,7 @@ use borrow.Author.Needs.{needs}
 use mathlib.Core.Path.{_≡_, sym, ap, _∙_}
 use Rattle.rules.specs.declared.Role.{Role}
 use Rattle.facts.proofs.Accepted.{good-length}
-use Rattle.reasons.specs.declared.WhyAnswer.the-variants.{ExcludedBy, DataBut}
+use Rattle.rules.specs.declared.WhyAnswer.the-variants.{ExcludedBy, DataBut}
 use Rattle.reasons.specs.Reasons.{withReason}
 use Rattle.why.proofs.Answered.{data-ranked}
 use Rattle.why.proofs.with_reason.Statement.{statement}

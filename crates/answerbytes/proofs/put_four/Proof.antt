@@ -1,11 +1,11 @@
--- `answers::put_four` meets its contract. Assumes nothing.
+-- `answerbytes::put_four` meets its contract. Assumes nothing.
 use borrow.Author.Needs.{needs}
 use native.Mathlib.Omega.{arith}
 use lib.ListN.{length-set}
-use Rattle.answers.specs.Answer.{four}
-use Rattle.answers.proofs.LayoutLaws.{put-bytes}
-use Rattle.answers.proofs.put_four.Statement.{statement}
-use Rattle.answers.proofs.put_four.Tie as tie
+use Rattle.answerbytes.specs.Layout.{four}
+use Rattle.answerbytes.proofs.LayoutLaws.{put-bytes}
+use Rattle.answerbytes.proofs.put_four.Statement.{statement}
+use Rattle.answerbytes.proofs.put_four.Tie as tie
 
 cast-a : tie.Need-cast-a
 cast-a c = search needs

@@ -8,7 +8,7 @@ use lib.ListN.{length, set}
 use lib.Seq.{sets}
 use borrow.Author.Tests.{lt-ltb, le-ltb}
 use Rattle.counting.specs.Search.{pick}
-use Rattle.answers.specs.Answer.{short}
+use Rattle.answerbytes.specs.Layout.{short}
 
 -- four bytes written one after the other
 pub put-bytes : (a : List ℕ) (at w x y z : ℕ) → set (set (set (set a at w) (at + 1) x) (at + 2) y) (at + 3) z ≡ sets a at (w ∷ x ∷ y ∷ z ∷ [])

@@ -1,12 +1,12 @@
--- `answers::tell` meets its contract. Assumes nothing.
+-- `answerbytes::tell` meets its contract. Assumes nothing.
 use borrow.Author.Needs.{needs}
 use Prim.Native.Nat.{ℕ}
 use mathlib.Core.Path.{refl, ap, _∙_}
 use mathlib.Core.List.{List}
 use lib.Seq.{sets}
-use Rattle.answers.specs.Answer.{four, layout, written}
-use Rattle.answers.proofs.tell.Statement.{statement}
-use Rattle.answers.proofs.tell.Tie as tie
+use Rattle.answerbytes.specs.Layout.{four, layout, written}
+use Rattle.answerbytes.proofs.tell.Statement.{statement}
+use Rattle.answerbytes.proofs.tell.Tie as tie
 
 put-four-requires : tie.Need-put-four-requires
 put-four-requires c κs = search needs
