@@ -27,7 +27,7 @@ ROOT = Path(__file__).resolve().parent.parent
 X = model.Limits()
 FIELDS = ('kind', 'zero', 'next index', 'first number', 'second number')
 WORDS = ('Subcarrier', 'Excluded', 'active', 'Exclusion band', 'Band', 'Width', 'span', 'Window', 'PLC',
-         'Continuous pilot', 'Scattered pilot', 'Role', 'Phase', 'Cell', 'Mark', 'Symbol', 'Input symbol',
+         'Continuous pilot', 'Scattered pilot', 'Role', 'Reason', 'Phase', 'Cell', 'Mark', 'Symbol', 'Input symbol',
          'N_I', 'N_D', 'Rank', 'Filler', 'flush', 'M, depth', 'Store', 'Heard', 'Warming', 'Fresh',
          'Ground', 'Place')
 # The numbers of a ground that its entry has to name.
