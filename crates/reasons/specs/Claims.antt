@@ -8,14 +8,14 @@ use lib.Dec.{leb, ltb}
 use Rattle.rules.specs.declared.Device.{Device}
 use Rattle.rules.specs.declared.Role.the-variants.{Scattered, Data}
 use Rattle.rules.specs.declared.Verdict.the-variants.{Accepted}
+use Rattle.rules.specs.declared.WhyAnswer.{WhyAnswer}
+use Rattle.rules.specs.declared.WhyAnswer.the-variants.{ExcludedBy, PlcBy, PilotBelow, PilotAbove, PilotBy, ScatteredOnly, DataBut, Refused}
 use Rattle.rules.specs.Device.{phases}
 use Rattle.rules.specs.Plan.{Entry, planOf, chain, entry, isPlc}
 use Rattle.rules.specs.Bands.{any}
 use Rattle.rules.specs.Roles.{oneOf, role}
 use Rattle.rules.specs.Grounds.{verdict}
 use Rattle.rules.specs.Answers.{roleAnswer}
-use Rattle.rules.specs.declared.WhyAnswer.{WhyAnswer}
-use Rattle.rules.specs.declared.WhyAnswer.the-variants.{ExcludedBy, PlcBy, PilotBelow, PilotAbove, PilotBy, ScatteredOnly, DataBut, Refused}
 use Rattle.reasons.specs.Reasons.{excludes, makesPilot, whyAnswer, named}
 
 -- a record that puts the PLC on k: of kind 1, and k is one of the PLC's subcarriers from its first number on

@@ -10,14 +10,14 @@ use Rattle.rules.specs.declared.Role.{Role}
 use Rattle.rules.specs.declared.Role.the-variants.{Excluded, Plc, Continuous, Scattered, Data}
 use Rattle.rules.specs.declared.RoleAnswer.{RoleAnswer}
 use Rattle.rules.specs.declared.RoleAnswer.the-variants as a-role
+use Rattle.rules.specs.declared.WhyAnswer.{WhyAnswer}
+use Rattle.rules.specs.declared.WhyAnswer.the-variants.{ExcludedBy, PlcBy, PilotBelow, PilotAbove, PilotBy, ScatteredOnly, DataBut, Refused}
 use Rattle.rules.specs.Device.{phases}
 use Rattle.rules.specs.Plan.{Entry, planOf, chain, isRange, isPilot}
 use Rattle.rules.specs.Bands.{covers}
 use Rattle.rules.specs.Roles.{oneOf, predefined, names, role}
 use Rattle.rules.specs.Answers.{roleAnswer}
 use Rattle.frame.specs.Counted.{isScattered}
-use Rattle.rules.specs.declared.WhyAnswer.{WhyAnswer}
-use Rattle.rules.specs.declared.WhyAnswer.the-variants.{ExcludedBy, PlcBy, PilotBelow, PilotAbove, PilotBy, ScatteredOnly, DataBut, Refused}
 
 -- "the record that excludes it": of kind 2, and its range covers k
 abbrev pub excludes : ℕ → Entry → Bool

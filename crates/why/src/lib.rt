@@ -1,6 +1,6 @@
 // What a subcarrier is doing, and why (document 02, Req 08): its role at a phase, and the record, the distance or the phase that is the
-// reason. The answer and its definition are crate reasons'. The entry `why` reads the plan bytes anew, changes nothing and asks nothing of
-// its caller.
+// reason. Crate reasons has the definition of the answer, and the claim that it is true. The entry `why` reads the plan bytes anew, changes
+// nothing and asks nothing of its caller.
 ghost use Prim.Native.Nat.{_+_, _-_, _≤_, _<_};
 ghost use mathlib.Core.Path.{_≡_};
 ghost use mathlib.Core.Bool.{true, false};
