@@ -4,6 +4,7 @@ ghost use Prim.Native.Nat.{ℕ};
 ghost use mathlib.Core.Path.{_≡_};
 ghost use mathlib.Core.Bool.{false};
 ghost use mathlib.Core.List.{List};
+ghost use Rattle.rules.specs.declared.Device.{Device};
 ghost use Rattle.rules.specs.declared.Verdict.the-variants.{Accepted};
 ghost use Rattle.rules.specs.Device.{khz50};
 ghost use Rattle.rules.specs.Plan.{planOf};
@@ -26,9 +27,9 @@ pub fn zero_is_warming()
     ensures { λ _. ⌜ ((s : List ℕ) → ZeroIsWarming khz50 s) ⌝ }
 {}
 
-// Any bytes as a plan: what a host reads from a call that says why is the answer of `why`.
+// Any device, any bytes as a plan: what a host reads from a call that says why is the answer of `why`.
 pub fn why_is_read()
-    ensures { λ _. ⌜ ((s : List ℕ) → WhyIsRead khz50 s) ⌝ }
+    ensures { λ _. ⌜ ((d : Device) (s : List ℕ) → WhyIsRead d s) ⌝ }
 {}
 
 // Every accepted plan, every starting phase, all lists of calls, in any answer buffer that is long enough: placed, unique, returned, streams.
