@@ -1,16 +1,17 @@
 #!/usr/bin/env python3
-"""Makes the test data of emitcases from the second model of the emitter.
+"""Makes the test data of emitcases from the second models of both emitters.
 
     python3 tests/emits.py              writes crates/emitcases/stdin and stdout
     python3 tests/emits.py --check      compares them, exits 1 on a difference
-    python3 tests/emits.py --mutants    bends the model in many ways, each of
+    python3 tests/emits.py --mutants    bends the models in many ways, each of
                                         which must change a line of stdout;
                                         exits 1 if one does not
 
-stdin holds, for each case: the plan's length (4 bytes, high byte first, the
-upper two zero), the starting phase (4 bytes, high byte first), the number of
-steps (4 bytes, high byte first, the upper two zero), the plan, then one byte
-for each step.  The end of the input ends the list.
+stdin holds, for each case, a head of four numbers, each of 4 bytes, high byte
+first: the plan's length (its upper two bytes zero), the starting phase, the number
+of steps (its upper two bytes zero), and which emitter: 1 for the first, 2 for the
+second, on the literal store (tests/figure.py); any other number counts as 1.  Then
+the plan, then one byte for each step.  The end of the input ends the list.
 
 What the program does with a case:
 
@@ -21,8 +22,10 @@ What the program does with a case:
 - The store is 60,000 cells, all 43981 at the start of each case.  The symbol
   buffer is 4,097 cells, all 43981 at the start of each case.  The data buffer
   is 4,096 cells.
-- `need` is how many cells a store of the plan has at least, the sum of p mod M over
-  the cells p below N_I, M being plan byte 7 and N_I from the judge; 0 of a refused plan.
+- `need` is how many cells a store of the plan has at least, M being plan byte 7 and
+  N_I from the judge: of the first emitter the sum of p mod M over the cells p below
+  N_I, of the second J * M * (M - 1) / 2 with J the ceiling of N_I / M; 0 of a refused
+  plan.  Fresh starts and steps below are those of the case's emitter; N_D is the same.
 - First N_D: for each phase 0 to 128 and then 4294967295: mix 1 and N_D, or mix
   2, number and place of the refusal.
 - Then a short fresh start: at the starting phase, with only the first need - 1 cells
@@ -57,17 +60,24 @@ What the program does with a case:
     13  emit with nd - 1 generated cells, of which cell 0 is then put to 16384 (18
         comes before 19)
     14  emit with nd - 1 generated cells and only the first need - 1 cells of the
-        store, none if `need` is 0 (17 comes before 18)
+        store, none if `need` is 0 (17, of the second emitter 27, comes before 18)
     15  emit with nd - 1 generated cells, of which cell 0 is then put to 32768, and
         the first 4,095 cells of the symbol buffer (17 comes before 18 and 19)
     16  flush with only the first need - 1 cells of the store, none if `need` is 0
     17  emit with nd generated cells, of which cell 0 is then put to 32768 (19 at
         place 0)
     18  flush with exactly the first `need` cells of the store (accepted)
-  A step with another number, 19 or more, counts as 1.  At depth 1, where `need` is 0, 7
-  and 16 are sent and 14 is refused by 18.  After each step: mix 1 and the next phase if
-  it was sent; else mix 2, number, place, and the phase handed back; then mix the first
-  4,096 cells of the symbol buffer (also after a refused step: nothing may have changed).
+    19  flush with only the first need - 1 cells of the store, none if `need` is 0, and
+        the first 4,095 cells of the symbol buffer (17 comes before 27)
+    20  emit with nd generated cells, phase + 128 and only the first need - 1 cells of
+        the store, none if `need` is 0 (16 comes before 17 and 27)
+    21  emit with nd generated cells, of which cell 0 is then put to 32768, and only the
+        first need - 1 cells of the store, none if `need` is 0 (17 and 27 come before 19)
+  A step with another number, 22 or more, counts as 1.  At depth 1, where `need` is 0, 7
+  and 16 are sent, 14 is refused by 18 and 21 by 19.  After each step: mix 1 and the next
+  phase if it was sent; else mix 2, number, place, and the phase handed back; then mix the
+  first 4,096 cells of the symbol buffer (also after a refused step: nothing may have
+  changed).
 - At the end of the case, also if the fresh start was refused, mix all 60,000
   cells of the store.
 
@@ -83,9 +93,11 @@ from itertools import chain, permutations, repeat
 sys.dont_write_bytecode = True
 
 import emitter
+import figure
 import plans
 import stored
 from emitter import Emitter, EmitterLimits, Places, emitter_length
+from figure import Figure, literal_length
 from make_plans import all_plans
 from model import Limits
 from plans import (PLAN_A, band_below, entries, near_a, near_b, outside, plan,
@@ -96,20 +108,22 @@ STORE = 60000
 SYMBOL = 4096
 UNTOUCHED = 43981
 TOP = 4294967295
+FIGURE = 'figure: '             # begins the names of the second emitter's cases and mutants
 ASKED = (*range(129), TOP)      # phases whose N_D is asked
 REFUSED = (2, 3, 4, 5, 6, 7, 8, 9, 11, 12, 13, 14, 15, 16, 17)
+EVERY = (*REFUSED, 19, 20, 21)  # the last three are not drawn for the first emitter
 
 
 # --- the cases -------------------------------------------------------------
 
 def refused_kinds(m):
     """The steps that are refused at a depth: at 1 no store is too short."""
-    return [kind for kind in REFUSED if m > 1 or kind not in (7, 16)]
+    return [kind for kind in EVERY if m > 1 or kind not in (7, 16)]
 
 
-def steps_of(seed, m, sent, opening=(), closing=()):
+def steps_of(seed, m, sent, opening=(), closing=(), kinds=REFUSED):
     """The opening, then steps in no order, so many of which are sent and among
-    which each of the refused kinds is, then the closing."""
+    which each of these refused kinds is, then the closing."""
     steps = []
     refused = refused_kinds(m)
     x = seed
@@ -124,14 +138,14 @@ def steps_of(seed, m, sent, opening=(), closing=()):
         elif draw < 64:
             kind = 18
         elif draw < 66:
-            kind = (19, 77, 128, 255)[which % 4]    # these count as 1
+            kind = (22, 77, 128, 255)[which % 4]    # these count as 1
         elif draw < 72:
             kind = 10
         else:
-            kind = REFUSED[which % len(REFUSED)]
+            kind = kinds[which % len(kinds)]
         drawn += kind not in refused
         steps.append(kind)
-    for kind in REFUSED:
+    for kind in kinds:
         if kind not in steps:
             x = x * 48271 % PRIME
             steps.insert(x // 64 % len(steps), kind)
@@ -139,8 +153,8 @@ def steps_of(seed, m, sent, opening=(), closing=()):
 
 
 def all_cases():
-    """(name, plan, phase, steps, want).  `want` is worked out by hand: N_I of
-    an accepted plan, or the line's first words of a refused start."""
+    """(name, plan, phase, steps, want) of the first emitter.  `want` is worked out by
+    hand: N_I of an accepted plan, or the line's first words of a refused start."""
     cases = []
 
     def case(name, data, phase, ranks, sent=160, opening=(), flushed=False):
@@ -218,6 +232,59 @@ def all_cases():
     return cases
 
 
+def figure_cases():
+    """The same of the second emitter."""
+    cases = []
+
+    def case(name, data, phase, ranks, sent=0, opening=(), flushed=False):
+        """A run of 2 M + 4 symbols or more over the wrap; a flushed one ends with M - 1 flushes."""
+        m = data[7]
+        closing = [1] * (m - 1) if flushed else []
+        steps = steps_of(len(cases) + 1, m, max(sent, 2 * m + 4), opening, closing, EVERY)
+        cases.append((FIGURE + name, data, phase, steps, ranks))
+
+    # Short runs.
+    cases.append((FIGURE + 'depth 3, nearly every step refused', near_a(M=3), 126,
+                  bytes((*EVERY, 0, *EVERY[::-1], 10, 1, 13, 4, 18)), 425))
+    cases.append((FIGURE + 'depth 2, every step refused', near_a(M=2), 127, bytes(EVERY), 425))
+    for depth, phase in ((4, 2), (1, 0), (32, 127)):
+        cases.append((FIGURE + 'depth %d, no steps' % depth, near_a(M=depth), phase, b'', 425))
+
+    # Refused at the start, by the phase (16 before 27) and by the plan.
+    for phase in (128, TOP):
+        cases.append((FIGURE + 'plan A, phase %d' % phase, PLAN_A, phase, b'\0\1', 'refused 16 0'))
+    cases.append((FIGURE + 'empty', b'', 128, b'\0\1', 'refused 1 0'))
+    cases.append((FIGURE + '850 to 854 excluded', near_a([(850, 854)]), 127, b'\0\1', 'refused 14 835'))
+    cases.append((FIGURE + '39 pilots', plans.ONE_PILOT_FEWER, TOP, b'\0\1', 'refused 15 0'))
+
+    # Each depth with dummies and without.
+    case('depth 1', near_a(M=1), 125, 425)
+    case('depth 2, a dummy', near_a(M=2), 126, 425, 12, flushed=True)
+    case('depth 2, 2 x 212 ranks', near_a(singles(852), M=2), 124, 424, 12)
+    case('depth 3, a dummy, over the wrap twice', near_a(M=3), 120, 425, 140)
+    case('depth 3, 3 x 141 ranks', near_a(singles(852, 1108), M=3), 125, 423, 12, flushed=True)
+    case('plan A, three dummies', PLAN_A, 123, 425, 24, (20, 19, 21, 0, 7), True)
+    case('depth 4, 4 x 105 ranks', near_a(singles(1100), [852, 980, 1108, 1236]), 120, 420)
+    case('depth 7, two dummies', near_a(M=7), 120, 425, flushed=True)
+    case('depth 7, 7 x 191 ranks', plan(204, 7, outside(148, 1500)), 126, 1337)
+    case('depth 31, nine dummies', near_a(M=31), 100, 425, flushed=True)
+    case('depth 31, 31 x 13 ranks', near_a(singles(*plans.TWENTY_TWO), L=1017, M=31), 120, 403)
+    case('depth 32, 32 x 13 ranks',
+         near_a(singles(810, 840, 870, 1070, 1100, 1130, 1160, 1190, 1220), M=32), 101, 416)
+    case('the fewest ranks that a plan can have, depth 32, six dummies',
+         plan(1017, 32, outside(800, 1239) + singles(*plans.TWENTY_TWO),
+              [*range(825, 921), *range(1125, 1149)]), 90, 282)
+    case('largest, 31 dummies', plans.LARGEST, 96, 3745)
+    return cases
+
+
+def other_cases():
+    """Other numbers than 1 and 2 in the head: they count as 1.  (number, case)."""
+    steps = bytes((0, 7, 19, 10, 20, 1, 21, 14, 18, 16, 0))
+    for number in (0, 3, 258, TOP):
+        yield number, ('emitter %d' % number, near_a(M=3), 126, steps, 425)
+
+
 # --- the lines -------------------------------------------------------------
 
 class Generator:
@@ -240,7 +307,7 @@ def given_to(kind, phase, nd, need, cells):
     """Phase, how much of the store, data (None is a flush) and how much of the symbol
     buffer a step is given."""
     store, data, symbol = STORE, None, SYMBOL
-    if kind in (0, 4, 5, 7, 10, 17):
+    if kind in (0, 4, 5, 7, 10, 17, 20, 21):
         data = cells.take(nd)
     if kind in (2, 13, 14, 15):
         data = cells.take(nd - 1)
@@ -253,19 +320,19 @@ def given_to(kind, phase, nd, need, cells):
         put(data, nd - 1, 65535)
     if kind == 13:
         put(data, 0, 16384)
-    if kind in (15, 17):
+    if kind in (15, 17, 21):
         put(data, 0, 32768)
-    if kind in (5, 12):
+    if kind in (5, 12, 20):
         phase += 128
     if kind == 6:
         phase = 128
     if kind == 11:
         phase = TOP
-    if kind in (7, 14, 16):
+    if kind in (7, 14, 16, 19, 20, 21):
         store = max(need - 1, 0)
     if kind in (10, 18):
         store = need
-    if kind in (8, 12, 15):
+    if kind in (8, 12, 15, 19):
         symbol = SYMBOL - 1
     if kind == 9:
         symbol = SYMBOL + 1
@@ -283,6 +350,14 @@ def mix_answer(total, answer):
     return mix(total, (2 if answer[0] == 'refused' else 1, *answer[1:]))
 
 
+def need_of(model, data):
+    """How many cells a store of the plan has at least; 0 of a refused plan."""
+    at = model.layout(data)
+    if isinstance(at, tuple):
+        return 0
+    return (literal_length if isinstance(model, Figure) else emitter_length)(at.n, data[7])
+
+
 def line_of(model, data, start, steps):
     """The line of a case."""
     total = 0
@@ -292,8 +367,7 @@ def line_of(model, data, start, steps):
         counts[phase] = 0 if isinstance(count, tuple) else count
         total = mix(total, (2, *count[1:]) if isinstance(count, tuple) else (1, count))
     store = [UNTOUCHED] * STORE
-    at = model.layout(data)
-    need = 0 if isinstance(at, tuple) else emitter_length(at.n, data[7])
+    need = need_of(model, data)
     for spare in (1, 0):
         part = store[:max(need - spare, 0)]
         size = len(part)
@@ -337,20 +411,22 @@ def check_case(case, line):
 
 
 def make():
-    """The cases, their lines, and the bytes of stdin and stdout."""
-    cases = all_cases()
-    model = Emitter()
+    """The cases, each with the number of its emitter at the end, their lines, and the bytes of
+    stdin and stdout."""
+    numbered = [*((1, case) for case in all_cases()), *((2, case) for case in figure_cases()), *other_cases()]
+    first, second = Emitter(), Figure()
     given = b''
     lines = []
     sample = Generator().take(10000)
     assert mix_cells(5, sample) == mix(5, sample)
-    assert len({case[0] for case in cases}) == len(cases), 'two cases of one name'
-    for case in cases:
+    assert len({case[0] for _, case in numbered}) == len(numbered), 'two cases of one name'
+    for which, case in numbered:
         _, data, phase, steps, _ = case
-        lines.append(line_of(model, data, phase, steps))
+        lines.append(line_of(second if which == 2 else first, data, phase, steps))
         check_case(case, lines[-1])
-        given += b''.join(n.to_bytes(4, 'big') for n in (len(data), phase, len(steps)))
+        given += b''.join(n.to_bytes(4, 'big') for n in (len(data), phase, len(steps), which))
         given += data + steps
+    cases = [(*case, which) for which, case in numbered]
     return cases, lines, given, ''.join(x + '\n' for x in lines).encode()
 
 
@@ -360,6 +436,9 @@ EQUIVALENT = {
     'nothing': 'The model that the others bend, as it is.',
     'emitted phase not taken modulo 128':
         'The grid repeats every 128 subcarriers, so it is the same at phase j and j + 128.',
+    FIGURE + 'nothing': 'The model that the others bend, as it is.',
+    **{FIGURE + name: why for name, why in figure.NO_DIFFERENT.items()},
+    FIGURE + 'a dummy too many': 'It goes into line 0, comes out at once and is thrown away.',
 }
 
 
@@ -514,11 +593,12 @@ def shortcut_mutants():
     yield 'N_D is N_I', bent(count=lambda self, at, phase: at.n)
 
 
-def refused_mutants():
+def refused_mutants(model, bent, grounds):
+    """`model` is the one that is bent, of the first emitter or the second."""
     def after(ground, change):
         """A model that does more when a step is refused by the ground (0: by any)."""
         def step(self, plan, phase, store, data, symbol):
-            answer = Total.step(self, plan, phase, store, data, symbol)
+            answer = model.step(self, plan, phase, store, data, symbol)
             if answer[0] == 'refused' and ground in (0, answer[1]):
                 return change(answer, store, symbol) or answer
             return answer
@@ -538,7 +618,7 @@ def refused_mutants():
         'writes a cell of the store': lambda a, store, symbol: raised(store, 101),
     }
     for name, change in changes.items():
-        for ground in (0, 16, 17, 18, 19):
+        for ground in (0, *grounds):
             by = 'any ground' if ground == 0 else 'ground %d' % ground
             yield 'a step refused by %s %s' % (by, name), after(ground, change)
     yield 'a refused step hands back the phase modulo 128', after(
@@ -546,9 +626,9 @@ def refused_mutants():
 
     def fresh_after(which):
         """A model whose fresh start writes a cell when it is refused by such a
-        ground.  What one refused by 17 writes, the next writes over."""
+        ground.  What one refused by 17 or 27 writes, the next writes over."""
         def fresh(self, plan, phase, store):
-            answer = Total.fresh(self, plan, phase, store)
+            answer = model.fresh(self, plan, phase, store)
             if answer[0] == 'refused' and which(answer[1]):
                 raised(store, 0)
             return answer
@@ -1048,20 +1128,83 @@ def ground_mutants():
                 self, plan, given._replace(phase=given.phase % low)))
 
 
+class TotalFigure(Total, Figure):
+    """The second emitter's model that is bent."""
+
+
+def bent_figure(**methods):
+    return type('Bent', (TotalFigure,), methods)()
+
+
+class FigureFirstThenCopies(TotalFigure):
+    """Passes the first symbol of a run through the lines, and sends the others as they come."""
+
+    def fresh(self, plan, phase, store):
+        self.first = True
+        return TotalFigure.fresh(self, plan, phase, store)
+
+    def step(self, plan, phase, store, data, symbol):
+        answer = TotalFigure.step(self, plan, phase, store, data, symbol)
+        if answer[0] == 'sent':
+            if not self.first:
+                at = self.layout(plan)
+                self.send(at, self.input_symbol(at, phase, data), symbol)
+            self.first = False
+        return answer
+
+
+class SilentFigure(TotalFigure):
+    """Its steps answer as they should."""
+
+    def step(self, plan, phase, store, data, symbol):
+        return TotalFigure.step(self, plan, phase, list(store), data, list(symbol))
+
+
+def figure_order_mutants():
+    """The grounds with one of them moved before an earlier one."""
+    grounds = (16, 17, 27, 18, 19)      # 25 is tried before them; the profile is 14 everywhere
+    for i, ground in enumerate(grounds):
+        for before in grounds[:i]:
+            order = [other for other in grounds if other != ground]
+            order.insert(order.index(before), ground)
+            yield 'ground %d moved before %d' % (ground, before), bent_figure(step_order=(25, *order))
+
+
+def figure_mutants():
+    yield 'nothing', bent_figure()
+    for name, methods in figure.bends():
+        yield name, bent_figure(**methods)
+    yield from figure_order_mutants()
+    yield from refused_mutants(TotalFigure, bent_figure, (16, 17, 27, 18, 19))
+    yield 'the first emitter on its own store', bent_figure(fresh=Emitter.fresh, step=Emitter.step)
+    yield 'passes the first symbol through the lines, then copies', FigureFirstThenCopies()
+    yield 'steps write nothing', SilentFigure()
+    yield 'writes the store only', bent_figure(send=nothing)
+    yield 'the store left as it is', bent_figure(fill=nothing)
+    yield 'no frequency interleaving', bent_figure(reading_order=lambda self, n: list(range(n)))
+    yield 'N_D is N_I', bent_figure(count=lambda self, at, phase: at.n)
+    yield 'placeholders of the emitted symbol', bent_figure(placeholders=scattered_at)
+
+
 def all_mutants():
     yield 'nothing', bent()
-    for mutants in (limit_mutants, shortcut_mutants, refused_mutants, fresh_mutants,
+    for mutants in (limit_mutants, shortcut_mutants,
+                    lambda: refused_mutants(Total, bent, (16, 17, 18, 19)), fresh_mutants,
                     reading_mutants, delay_mutants, mark_mutants, data_mutants, store_mutants,
                     state_mutants, ground_mutants):
         yield from mutants()
+    for name, model in figure_mutants():
+        yield FIGURE + name, model
 
 
 def try_mutants(cases, lines):
-    """The equivalent ones are tried on the first 40 cases, which come before the
-    larger plans."""
+    """Each on the cases of its emitter.  The equivalent ones of the first are tried on its first 40 cases,
+    which come before the larger plans."""
+    tried = {which: [(case, line) for case, line in zip(cases, lines) if case[-1] == which] for which in (1, 2)}
+
     def change_of(name, model):
-        tried = cases[:40] if name in EQUIVALENT else cases
-        return stored.first_change(line_of, tried, lines, model)
+        some = tried[2] if isinstance(model, Figure) else tried[1][:40 if name in EQUIVALENT else None]
+        return stored.first_change(line_of, *zip(*some), model)
     return stored.try_mutants(all_mutants(), change_of, EQUIVALENT, len(cases))
 
 
@@ -1069,6 +1212,7 @@ def try_mutants(cases, lines):
 
 def main():
     emitter.check_facts()
+    figure.check_facts()
     cases, lines, given, wanted = make()
     print('%d cases, %d steps, %d bytes'
           % (len(cases), sum(len(case[3]) for case in cases), len(given)))

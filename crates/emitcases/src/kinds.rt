@@ -23,7 +23,7 @@ fn emitting(kind: u8, right: Sending, need: usize) -> Sending {
         2 | 13 => given.count = less(right.count),
         3 => given.count = std::num::wrapping_add_usize(right.count, 1),
         5 => given.phase = std::num::wrapping_add_u32(right.phase, 128),
-        7 => given.store = less(need),
+        7 | 21 => given.store = less(need),
         10 => given.store = need,
         12 => {
             given.count = 0;
@@ -37,6 +37,10 @@ fn emitting(kind: u8, right: Sending, need: usize) -> Sending {
         15 => {
             given.count = less(right.count);
             given.symbol = 4095;
+        }
+        20 => {
+            given.phase = std::num::wrapping_add_u32(right.phase, 128);
+            given.store = less(need);
         }
         _ => {}
     }
@@ -55,12 +59,16 @@ fn flushing(kind: u8, right: Sending, need: usize) -> Sending {
         11 => given.phase = 4294967295,
         16 => given.store = less(need),
         18 => given.store = need,
+        19 => {
+            given.store = less(need);
+            given.symbol = 4095;
+        }
         _ => {}
     }
     given
 }
 
-// What a step of a number is given; nd is N_D. The numbers from 18 on are flushes.
+// What a step of a number is given; nd is N_D. The numbers 18, 19 and those from 22 on are flushes.
 pub(crate) fn sending(kind: u8, state: EmitterState, nd: usize, need: usize) -> Sending {
     let right = Sending {
         flush: false,
@@ -70,7 +78,7 @@ pub(crate) fn sending(kind: u8, state: EmitterState, nd: usize, need: usize) -> 
         symbol: SYMBOL,
     };
     match kind {
-        1 | 6 | 8 | 9 | 11 | 16 | 18..=255 => flushing(kind, right, need),
+        1 | 6 | 8 | 9 | 11 | 16 | 18 | 19 | 22..=255 => flushing(kind, right, need),
         _ => emitting(kind, right, need),
     }
 }
@@ -87,7 +95,7 @@ pub(crate) fn filled(x: u32, kind: u8, n: usize, cells: &mut [u16]) -> u32 {
             end = less(n);
         }
         13 => place = 0,
-        15 | 17 => {
+        15 | 17 | 21 => {
             place = 0;
             cell = 32768;
         }

@@ -1,9 +1,10 @@
-// Sends symbols with `fresh::fresh_emitter`, `emitter::emit` and `emitter::flush`, asks `cells::data_count`, and prints what
-// tests/emits.py works out with the second model: a line for each case, how many steps were sent and how many refused, and the checksum
-// of every answer, of the symbol after each step and of the store at the end. Every subcarrier has load 14. A fresh start that is refused
-// prints `refused`, number, place and the checksum.
-// Standard input holds, for each case, the plan's length, the starting phase and the number of steps as four bytes each, high byte first;
-// then the plan, and a byte for each step. tests/emits.py says what the bytes stand for and makes stdin and stdout.
+// Sends symbols with the first emitter (`fresh::fresh_emitter`, `emitter::emit`, `emitter::flush`) or with the second, on the literal store
+// (crate figureemitter), asks `cells::data_count`, and prints what tests/emits.py works out with the second models: a line for each case, how
+// many steps were sent and how many refused, and the checksum of every answer, of the symbol after each step and of the store at the end.
+// Every subcarrier has load 14. A fresh start that is refused prints `refused`, number, place and the checksum.
+// Standard input holds, for each case, the plan's length, the starting phase, the number of steps and which emitter, four bytes each, high
+// byte first; then the plan, and a byte for each step. tests/emits.py says what the bytes stand for and makes stdin and stdout.
+mod either;
 mod kinds;
 
 use kinds::STORE;
@@ -12,8 +13,10 @@ use rules::EmitterState;
 use rules::SendAnswer;
 use rules::StartAnswer;
 
-// A run: the state for its next step, the generator of data, the checksum, and how many steps were sent and refused.
+// A run: whether it is the second emitter's, the state for its next step, the generator of data, the checksum, and how many steps were sent
+// and refused.
 struct Run {
+    second: bool,
     state: EmitterState,
     x: u32,
     sum: u32,
@@ -74,7 +77,7 @@ fn step(
     let mut cells = [0u16; SYMBOL];
     let mut next = run;
     next.x = kinds::filled(run.x, kind, given.count, &mut cells);
-    let answer = trials::send(plan, profile, given, store, &cells, symbol);
+    let answer = either::send(run.second, plan, profile, given, store, &cells, symbol);
     told(next, answer, symbol)
 }
 
@@ -94,11 +97,21 @@ fn steps(start: Run, plan: &[u8], need: usize, bytes: &[u8], store: &mut [u16; S
 
 // The checksum with two fresh starts more: in one cell too few, none where none is needed, and in just enough. The one leaves the first
 // cells of a store that needs some as they were.
-fn mixed_tight(sum: u32, plan: &[u8], phase: u32, need: usize, store: &mut [u16; STORE]) -> u32 {
+fn mixed_tight(
+    sum: u32,
+    second: bool,
+    plan: &[u8],
+    phase: u32,
+    need: usize,
+    store: &mut [u16; STORE],
+) -> u32 {
     let few = kinds::less(need);
-    let short = sums::mixed_start(sum, trials::fresh_emitter(plan, phase, few, store));
+    let short = sums::mixed_start(sum, either::fresh_emitter(second, plan, phase, few, store));
     let seen = sums::mixed_cells(short, store, 16);
-    sums::mixed_start(seen, trials::fresh_emitter(plan, phase, need, store))
+    sums::mixed_start(
+        seen,
+        either::fresh_emitter(second, plan, phase, need, store),
+    )
 }
 
 // The line of a case.
@@ -114,6 +127,7 @@ fn print_run(run: Run, sum: u32) -> bool {
 fn started(
     answer: StartAnswer,
     sum: u32,
+    second: bool,
     plan: &[u8],
     need: usize,
     bytes: &[u8],
@@ -126,6 +140,7 @@ fn started(
         }
         StartAnswer::Started(state) => {
             let begun = Run {
+                second,
                 state,
                 x: 1,
                 sum,
@@ -140,16 +155,16 @@ fn started(
 }
 
 // A case that is read: N_D, the fresh starts, the steps.
-fn start(plan: &[u8], phase: u32, bytes: &[u8], store: &mut [u16; STORE]) -> bool {
-    let need = trials::emitter_need(plan);
-    let tight = mixed_tight(mixed_counts(plan), plan, phase, need, store);
-    let answer = trials::fresh_emitter(plan, phase, STORE, store);
+fn start(second: bool, plan: &[u8], phase: u32, bytes: &[u8], store: &mut [u16; STORE]) -> bool {
+    let need = either::need(second, plan);
+    let tight = mixed_tight(mixed_counts(plan), second, plan, phase, need, store);
+    let answer = either::fresh_emitter(second, plan, phase, STORE, store);
     let sum = sums::mixed_start(tight, answer);
-    started(answer, sum, plan, need, bytes, store)
+    started(answer, sum, second, plan, need, bytes, store)
 }
 
 // Reads a plan and steps of these lengths and tries them; false where they could not be read whole or the line was not written.
-fn try_case(plan: &mut [u8], phase: u32, bytes: &mut [u8]) -> bool {
+fn try_case(second: bool, plan: &mut [u8], phase: u32, bytes: &mut [u8]) -> bool {
     if !console::fill(b"emitcases", plan) {
         return false;
     }
@@ -157,23 +172,24 @@ fn try_case(plan: &mut [u8], phase: u32, bytes: &mut [u8]) -> bool {
         return false;
     }
     let mut store = [BEFORE; STORE];
-    start(plan, phase, bytes, &mut store)
+    start(second, plan, phase, bytes, &mut store)
 }
 
 // One case; false where the input has ended, or this case was not read or not printed.
 fn one_case() -> bool {
-    let mut head = [0u8; 12];
+    let mut head = [0u8; 16];
     if !console::fill(b"emitcases", &mut head) {
         return false;
     }
     let length = console::number_at(&head, 0);
     let phase = console::number_at(&head, 1);
     let count = console::number_at(&head, 2);
+    let second = console::number_at(&head, 3) == 2;
     let mut plan = io::large_buffer();
     let mut bytes = io::large_buffer();
     let n = console::at_most(length as usize, &plan);
     let k = console::at_most(count as usize, &bytes);
-    try_case(&mut plan[..n], phase, &mut bytes[..k])
+    try_case(second, &mut plan[..n], phase, &mut bytes[..k])
 }
 
 // The lines of up to 1000 cases.

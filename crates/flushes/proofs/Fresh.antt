@@ -134,7 +134,7 @@ module _ (m base n : ℕ) (kc t : List ℕ) (long : placesBefore (emitterDelay m
 -- ---- a fresh emitter's places
 
 -- a flush has placeholders and filler
-flush-cell : (F : Frame) (j p : ℕ) → p < cells F → getD (inputCells F j flush) p 0 ≡ pick (held F j p) placeholder filler
+pub flush-cell : (F : Frame) (j p : ℕ) → p < cells F → getD (inputCells F j flush) p 0 ≡ pick (held F j p) placeholder filler
 unfolding dataList isData dataCount
 flush-cell F j p hp =
     by-test (held F j p)
@@ -143,7 +143,7 @@ flush-cell F j p hp =
 
 module _ (F : Frame) (base : ℕ) (t : Turning F base) (j : ℕ) (fits : F .depth ≤ F .phases) (pos : 0 < F .depth) where
   -- place i of cell p is sent at phase j + i
-  held-until : (p i : ℕ) → i < delay F p → held F (phaseBack F j (delay F p - i)) p ≡ eqb i (symbolsUntil (base + j) (spot F p))
+  pub held-until : (p i : ℕ) → i < delay F p → held F (phaseBack F j (delay F p - i)) p ≡ eqb i (symbolsUntil (base + j) (spot F p))
   unfolding held
   held-until p i h =
       let d : delay F p < F .depth = mod-lt p pos in

@@ -27,7 +27,7 @@ use Rattle.longstore.specs.Steps.{Starting, starts, refused, shortStore,
 use Rattle.longstore.specs.Receive.{Listening, listens, turnedAway, frameListen, frameReceive, listenStep, hearStep}
 use Rattle.longstore.specs.Run.{longEntries, isStarted, isListening}
 use Rattle.longstore.specs.Same.{Same, SameAsLong}
-use Rattle.longstore.proofs.Results.{longFrame}
+use Rattle.longstore.proofs.Entries.{longFrame}
 use Rattle.longstore.proofs.Emitters.{emitter-alike}
 use Rattle.longstore.proofs.Receivers.{receiver-alike}
 

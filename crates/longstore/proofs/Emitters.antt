@@ -21,8 +21,10 @@ use Rattle.rules.specs.Frame.{Frame, cells, delay, nextPhase, phaseBack, Given,
 use Rattle.rules.specs.Store.{emitterPlaces, freshStore}
 use Rattle.rules.specs.Steps.{Emitter, Send, Sending, refused, ground16, shortStore, ground17, profileGround, givenGrounds, sendGrounds, nextState, sentStore, sentSymbol, accepted, frameStep, startGrounds}
 use Rattle.frame.proofs.Cells.{Sound, length-input}
+use Rattle.runs.specs.Results.{sendResult}
 use Rattle.runs.specs.Run.{isSent, emitterLeft, sendings, input, sent}
 use Rattle.runs.proofs.Steps.{frameEntries, as-given, not-refused, FreshIn, freshEmitter}
+use Rattle.runs.proofs.Results.{same-results, same-accepted}
 use Rattle.runs.proofs.Emit.{delay-below, fresh-at, closedSent, sent-closed}
 use Rattle.longstore.specs.declared.StartAnswer.the-variants as a-start
 use Rattle.longstore.specs.Store as long-store
@@ -30,9 +32,9 @@ use Rattle.longstore.specs.Store.{cellAt, freshCell}
 use Rattle.longstore.specs.Steps as long
 use Rattle.longstore.specs.Run as long-run
 use Rattle.longstore.specs.Run.{emitterWithoutRow}
-use Rattle.longstore.specs.Same.{sendResult, longSendResult, SameSent}
+use Rattle.longstore.specs.Same.{longSendResult, SameSent}
 use Rattle.longstore.proofs.Rows.{Agree, rowBack, same-cells, agree-next}
-use Rattle.longstore.proofs.Results.{longFrame, same-results, same-accepted}
+use Rattle.longstore.proofs.Entries.{longFrame}
 
 -- ---- one step
 

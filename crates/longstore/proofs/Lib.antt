@@ -1,5 +1,5 @@
 pub mod Rows
-pub mod Results
+pub mod Entries
 pub mod Emitters
 pub mod Receivers
 pub mod Claims

@@ -25,9 +25,11 @@ use Rattle.rules.specs.Loads.{ground25}
 use Rattle.rules.specs.Receive.{Receiver, Arrival, Receiving, turnedAway, warming, outPhase, outCount, shortBuffer, receiverGround16, receiverGround17, ground20, receiveGrounds, heardState, heardStore, handed, received, frameReceive}
 use Rattle.frame.proofs.Cells.{Sound, length-line-cells}
 use Rattle.places.proofs.Kept.{start-grow}
+use Rattle.runs.specs.Results.{receiveResult}
 use Rattle.runs.specs.Run.{isReceived, receiverLeft, outcomeOf, heard, outcomes}
 use Rattle.runs.proofs.Steps.{frameEntries, not-refused}
 use Rattle.runs.proofs.Hears.{ListensIn, freshReceiver}
+use Rattle.runs.proofs.Results.{same-results, same-accepted}
 use Rattle.runs.proofs.Outcomes.{closedOutcomes, outcomes-closed}
 use Rattle.longstore.specs.declared.ListenAnswer.the-variants as a-start
 use Rattle.longstore.specs.Store as long-store
@@ -36,9 +38,9 @@ use Rattle.longstore.specs.Steps as long-steps
 use Rattle.longstore.specs.Receive as long
 use Rattle.longstore.specs.Run as long-run
 use Rattle.longstore.specs.Run.{receiverWithoutRow}
-use Rattle.longstore.specs.Same.{receiveResult, longReceiveResult, SameReceived}
+use Rattle.longstore.specs.Same.{longReceiveResult, SameReceived}
 use Rattle.longstore.proofs.Rows.{Agree, rowBack, same-cells, agree-next}
-use Rattle.longstore.proofs.Results.{longFrame, same-results, same-accepted}
+use Rattle.longstore.proofs.Entries.{longFrame}
 
 -- ---- one step
 

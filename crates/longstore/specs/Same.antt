@@ -3,40 +3,29 @@
 use Prim.Native.Nat.{ℕ, _*_, _≤_, _<_}
 use mathlib.Core.Path.{_≡_}
 use mathlib.Core.Bool.{true}
-use mathlib.Core.List.{List, [], _∷_}
+use mathlib.Core.List.{List}
 use lib.ListN.{length}
 use Rattle.rules.specs.declared.Device.{Device}
 use Rattle.rules.specs.declared.SendAnswer.{SendAnswer}
 use Rattle.rules.specs.declared.ReceiveAnswer.{ReceiveAnswer}
 use Rattle.rules.specs.Plan.{planOf}
 use Rattle.rules.specs.Frame.{Frame, frameOf, cells}
-use Rattle.rules.specs.Steps.{Emitter, Send, Sending}
-use Rattle.rules.specs.Receive.{Receiver, Arrival, Receiving}
+use Rattle.rules.specs.Steps.{Emitter, Send}
+use Rattle.rules.specs.Receive.{Receiver, Arrival}
+use Rattle.runs.specs.Results.{results, sendResult, receiveResult}
 use Rattle.runs.specs.Run.{Entries, cellEntries, emitterLeft, input, sent, Fresh, receiverLeft, heard, outcomes, FreshReceiver}
 use Rattle.longstore.specs.Steps as long
 use Rattle.longstore.specs.Receive as long-receive
 use Rattle.longstore.specs.Run as long-run
 use Rattle.longstore.specs.Run.{LongEntries, longEntries, sendWithoutRow, receiveWithoutRow, isStarted, isListening}
 
--- ---- the results of steps, refused ones included
-
--- of all steps of a run, in order
-module _ {E A R T : Type 0} (step : E → A → R) (left : R → E) (result : R → T) where
-  unfoldable pub results : E → List A → List T
-  results e [] = []
-  results e (a ∷ rest) = result (step e a) ∷ results (left (step e a)) rest
+-- ---- the results of steps with the long store, those of specs/Results of crate runs
 
 -- of an emit or flush step: the answer without the row, and the lent symbol as the step leaves it
-abbrev pub sendResult : Sending → SendAnswer × List ℕ
-sendResult r = (r .answer, r .symbol)
-
 abbrev pub longSendResult : long.Sending → SendAnswer × List ℕ
 longSendResult r = (sendWithoutRow (r .answer), r .symbol)
 
 -- of a receive step: the answer without the row, and the data buffer as the step leaves it
-abbrev pub receiveResult : Receiving → ReceiveAnswer × List ℕ
-receiveResult r = (r .answer, r .buffer)
-
 abbrev pub longReceiveResult : long-receive.Receiving → ReceiveAnswer × List ℕ
 longReceiveResult r = (receiveWithoutRow (r .answer), r .buffer)
 

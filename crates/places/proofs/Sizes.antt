@@ -16,7 +16,7 @@ pub square : (n : ℕ) → n ≤ n * n
 square zero = omega arith
 square (suc n) = omega arith
 
-twice-sum : (n : ℕ) → 2 * sum (λ i. i) n ≡ n * n - n
+pub twice-sum : (n : ℕ) → 2 * sum (λ i. i) n ≡ n * n - n
 unfolding sum
 twice-sum zero = refl
 twice-sum (suc n) = omega (arith, twice-sum n, square n)

@@ -6,7 +6,7 @@ ghost use Rattle.rules.specs.Fits.{capacity};
 ghost use Rattle.rules.specs.Places.{emitterDelay, receiverDelay, placesBefore};
 
 // 0 + 1 + .. + (n - 1).
-fn triangle(n: usize) -> usize
+pub fn triangle(n: usize) -> usize
     requires { ⌜ n ≤ capacity ⌝ }
     ensures { λ r. ⌜ r ≡ sum (λ i. i) n ⌝ }
 {

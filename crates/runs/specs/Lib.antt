@@ -1,4 +1,5 @@
 pub mod Run
+pub mod Results
 pub mod Follow
 pub mod Streams
 pub mod Demand3

@@ -1,8 +1,11 @@
--- The first ground of a sending step, stage by stage, and what the step answers and leaves: one law for a refusal, one for an accepted step.
--- Assumes nothing.
+-- What a sending step of either emitter answers and leaves: one law for a refusal, and one for an accepted step of each emitter. Assumes nothing.
 use mathlib.Core.Path.{_≡_, refl, sym, ap, _∙_}
+use mathlib.Core.Bool.{Bool, true, false}
 use mathlib.Core.List.{List}
-use Prim.Native.Nat.{ℕ, _+_, _%_}
+use Prim.Native.Nat.{ℕ, _+_, _%_, _≤_}
+use lib.ListN.{length}
+use borrow.Author.Tests.{ltb-false}
+use Rattle.counting.specs.Search.{pick}
 use Rattle.rules.specs.declared.Device.{Device}
 use Rattle.rules.specs.declared.Finding.{Finding}
 use Rattle.rules.specs.declared.Finding.the-variants.{Fine, Ground}
@@ -12,118 +15,108 @@ use Rattle.rules.specs.declared.SendAnswer.{SendAnswer}
 use Rattle.rules.specs.declared.SendAnswer.the-variants as a-send
 use Rattle.rules.specs.Device.{phases}
 use Rattle.rules.specs.Plan.{planOf}
-use Rattle.rules.specs.Grounds.{_else_, grounds1to15, answer}
+use Rattle.rules.specs.Grounds.{_else_, grounds1to15}
 use Rattle.rules.specs.Frame.{Frame, frameOf, cells, inputCells, lineSymbol}
 use Rattle.rules.specs.Places.{emitterDelay, oldest, moved}
-use Rattle.rules.specs.Store.{emitterPlaces}
-use Rattle.rules.specs.Steps as steps
-use Rattle.rules.specs.Steps.{Emitter, Send, Sending, leaves, ground16, ground17, profileGround, givenGrounds, sendGrounds, nextState, sentStore, sentSymbol, accepted, frameStep, sendStep}
-use Rattle.rules.proofs.Findings.{both-fine}
+use Rattle.rules.specs.Steps as first
+use Rattle.rules.specs.Steps.{Emitter, Send, Sending, leaves, ground16, shortStore, ground17, profileGround, givenGrounds, nextState, sendStep}
+use Rattle.rules.proofs.Findings.{both-fine, when-fine}
 use Rattle.rules.proofs.Answered.{accepted-is, refused-is}
-use Rattle.verdicts.proofs.Verdicts.{else-assoc}
 use Rattle.steps.proofs.Lent.{Lent, lent}
-use Rattle.sendgrounds.specs.Opening.{sendVerdict}
+use Rattle.figure.specs.Figure.{figureStore, figureCells}
+use Rattle.figure.specs.Steps as second
+use Rattle.figure.specs.Steps.{ground27, figureSendStep}
+use Rattle.figure.specs.Needs.{places17, places27, stepGrounds, stepOf}
+use Rattle.figure.proofs.Needs.{first-step, second-step}
+use Rattle.sendgrounds.specs.Opening.{sendFinding, sendVerdict}
+
+-- ---- a step as a function of what it finds
 
 module _ (d : Device) (s : List ℕ) (e : Emitter) (a : Send) where
   abbrev F : Frame
   F = frameOf d (planOf s)
 
-  -- ground 25 of a step, 16 and 17, and those of what it is given
-  abbrev of-profile : Finding
-  of-profile = profileGround F (a .profile) (a .given)
+  -- where nothing is found it sends, as either emitter does
+  sends : Bool → Sending
+  sends literal = pick literal (second.accepted F e (a .given)) (first.accepted F e (a .given))
 
-  abbrev of-lent : Finding
-  of-lent = ground16 F (e .state .phase) else ground17 F (emitterPlaces F) (e .store) (a .room)
+  after : Bool → Finding → Sending
+  after literal f = elim f [ Fine ↦ sends literal | Ground n place ↦ first.refused e a n place ]
 
-  abbrev of-given : Finding
-  of-given = givenGrounds F (a .profile) (e .state .phase) (a .given)
-
-  -- refused as the plan is
-  pub by-plan : (n place : ℕ) → grounds1to15 d s ≡ Ground n place → Refused n place ≡ sendVerdict d s e a
-  unfolding sendVerdict
-  by-plan n place h = sym (ap (λ (f : Finding). answer (f else sendGrounds F e a) (cells F)) h)
-
-  -- refused by 25
-  pub by-profile : grounds1to15 d s ≡ Fine → (n place : ℕ) → Ground n place ≡ of-profile → Refused n place ≡ sendVerdict d s e a
-  unfolding sendVerdict sendGrounds
-  by-profile fine n place h =
-      sym
-      (λ i. answer
-      (fine i
-      else sym h i
-      else ground16 F (e .state .phase)
-      else ground17 F (emitterPlaces F) (e .store) (a .room)
-      else of-given) (cells F))
-
-  module _ (fine : grounds1to15 d s ≡ Fine) (listed : of-profile ≡ Fine) where
-    -- 16 and 17 come before those that speak of the data
-    staged : (f : Finding) → f ≡ (of-lent else of-given) → answer f (cells F) ≡ sendVerdict d s e a
-    unfolding sendVerdict sendGrounds
-    staged f h =
-        ap (λ (x : Finding). answer x (cells F)) (h ∙ else-assoc (ground16 F (e .state .phase)) (ground17 F (emitterPlaces F) (e .store) (a .room)) of-given)
-        ∙ sym
-        (λ i. answer
-        (fine i
-        else listed i
-        else ground16 F (e .state .phase)
-        else ground17 F (emitterPlaces F) (e .store) (a .room)
-        else of-given) (cells F))
-
-    -- refused by 16 or 17
-    pub by-lent : (n place : ℕ) → Ground n place ≡ of-lent → Refused n place ≡ sendVerdict d s e a
-    by-lent n place h = staged (Ground n place) (ap (λ (f : Finding). f else of-given) h)
-
-    -- left to 18 and 19
-    pub by-given : Fine ≡ of-lent → (f : Finding) → f ≡ of-given → answer f (cells F) ≡ sendVerdict d s e a
-    by-given h f g = staged f (g ∙ ap (λ (x : Finding). x else of-given) h)
-
-  -- what a return has to show of its answer, the store and the symbol
-  abbrev pub Shown : SendAnswer → List ℕ → List ℕ → Type 0
-  Shown r store out = leaves r store out ≡ sendStep d s e a
-
-  -- a step as a function of its findings
-  after : Finding → Sending
-  after f = elim f [ Fine ↦ accepted F e (a .given) | Ground n place ↦ steps.refused e a n place ]
-
-  merged : (f g : Finding) → after (f else g) ≡ elim f [ Fine ↦ after g | Ground n place ↦ steps.refused e a n place ]
+  merged : (literal : Bool) (f g : Finding) → after literal (f else g) ≡ elim f [ Fine ↦ after literal g | Ground n place ↦ first.refused e a n place ]
   unfolding after
-  merged Fine g = refl
-  merged (Ground n place) g = refl
+  merged literal Fine g = refl
+  merged literal (Ground n place) g = refl
 
-  found : (f : Finding) → f ≡ (grounds1to15 d s else sendGrounds F e a) → after f ≡ sendStep d s e a
-  unfolding sendStep frameStep after
-  found f h = ap after h ∙ merged (grounds1to15 d s) (sendGrounds F e a)
+  step-is : (literal : Bool) → after literal (sendFinding literal d s e a) ≡ stepOf literal d s e a
+  unfolding sendFinding after sends sendStep first.frameStep figureSendStep second.frameStep
+  step-is false = ap (λ (f : Finding). after false (grounds1to15 d s else f)) (first-step F e a) ∙ merged false (grounds1to15 d s) (first.sendGrounds F e a)
+  step-is true = ap (λ (f : Finding). after true (grounds1to15 d s else f)) (second-step F e a) ∙ merged true (grounds1to15 d s) (second.figureGrounds F e a)
+
+-- ---- what a return has to show of its answer, the store and the symbol
+
+module _ (literal : Bool) (d : Device) (s : List ℕ) (e : Emitter) (a : Send) where
+  abbrev pub Shown : SendAnswer → List ℕ → List ℕ → Type 0
+  Shown r store out = leaves r store out ≡ stepOf literal d s e a
 
   -- a refused step hands the state back and leaves the rest as it was
-  pub refused : (n place : ℕ) → Refused n place ≡ sendVerdict d s e a → Shown (a-send.Refused n place (e .state)) (e .store) (a .room)
+  pub refused : (n place : ℕ) → Refused n place ≡ sendVerdict literal d s e a → Shown (a-send.Refused n place (e .state)) (e .store) (a .room)
   unfolding sendVerdict after
-  refused n place h = found (Ground n place) (sym (refused-is (grounds1to15 d s else sendGrounds F e a) n place (cells F) h))
+  refused n place h = sym (ap (after d s e a literal) (refused-is (sendFinding literal d s e a) n place (cells (F d s e a)) h)) ∙ step-is d s e a literal
 
-  module _ (n : ℕ) (h : Accepted n ≡ sendVerdict d s e a) where
-    passed : ((grounds1to15 d s else sendGrounds F e a) ≡ Fine) × (n ≡ cells F)
+  module _ (n : ℕ) (h : Accepted n ≡ sendVerdict literal d s e a) where
+    passed : (sendFinding literal d s e a ≡ Fine) × (n ≡ cells (F d s e a))
     unfolding sendVerdict
-    passed = accepted-is (grounds1to15 d s else sendGrounds F e a) n (cells F) h
+    passed = accepted-is (sendFinding literal d s e a) n (cells (F d s e a)) h
 
-    -- grounds 16 and 17 are passed
-    pub fit : Lent F (e .state .phase) (emitterPlaces F) (e .store) (a .room)
-    unfolding sendGrounds
+    -- grounds 16 and 17 are passed, and 27
+    pub fit : Lent (F d s e a) (e .state .phase) (places17 literal (F d s e a)) (e .store) (a .room) × (places27 literal (F d s e a) ≤ length (e .store))
+    unfolding sendFinding stepGrounds ground27 shortStore
     fit =
-        let late = both-fine (ground16 F (e .state .phase)) (ground17 F (emitterPlaces F) (e .store) (a .room) else of-given)
-        (both-fine of-profile (ground16 F (e .state .phase) else ground17 F (emitterPlaces F) (e .store) (a .room) else of-given)
-        (both-fine (grounds1to15 d s) (sendGrounds F e a) (passed .0) .1) .1) in
-        lent F (e .state .phase) (emitterPlaces F) (e .store) (a .room)
-        (λ i. sym (late .0) i else sym (both-fine (ground17 F (emitterPlaces F) (e .store) (a .room)) of-given (late .1) .0) i)
+        let G : Frame = F d s e a in
+        let lines : Finding = ground27 (places27 literal G) (e .store) in
+        let given : Finding = givenGrounds G (a .profile) (e .state .phase) (a .given) in
+        let of17 : Finding = ground17 G (places17 literal G) (e .store) (a .room) in
+        let late = both-fine (ground16 G (e .state .phase)) (of17 else lines else given)
+        (both-fine (profileGround G (a .profile) (a .given)) (ground16 G (e .state .phase) else of17 else lines else given)
+        (both-fine (grounds1to15 d s) (profileGround G (a .profile) (a .given) else ground16 G (e .state .phase) else of17 else lines else given) (passed .0) .1) .1) in
+        let after17 = both-fine of17 (lines else given) (late .1) in (
+          lent G (e .state .phase) (places17 literal G) (e .store) (a .room) (λ i. sym (late .0) i else sym (after17 .0) i),
+          ltb-false (length (e .store)) (places27 literal G) (when-fine 27 0 _ (both-fine lines given (after17 .1) .0)),
+        )
 
-    -- an accepted step: of each cell the oldest placed, the input cell stored, the phase gone up
-    pub sent : (m k : ℕ) (x st out : List ℕ) (r : EmitterState) → m ≡ planOf s .depth → k ≡ n → x ≡ inputCells F (e .state .phase) (a .given)
-        → st ≡ moved (emitterDelay m) k (e .store) x
-        → out ≡ lineSymbol F (oldest (emitterDelay m) k (e .store) x)
-        → r ≡ record { phase = (e .state .phase + 1) % phases }
-        → Shown (a-send.Sent r) st out
-    unfolding after accepted sentSymbol sentStore nextState frameOf
-    sent m k x st out r em ek ex es eo er =
-        let all = ek ∙ passed .1 in
-        let put : st ≡ sentStore F e (a .given) = es ∙ (λ i. moved (emitterDelay (em i)) (all i) (e .store) (ex i)) in
-        let sends : out ≡ sentSymbol F e (a .given) = eo ∙ (λ i. lineSymbol F (oldest (emitterDelay (em i)) (all i) (e .store) (ex i))) in
-        let next : r ≡ nextState F (e .state) = er in
-        (λ i. leaves (a-send.Sent (next i)) (put i) (sends i)) ∙ found Fine (sym (passed .0))
+    -- an accepted step: the phase has gone up, and what either emitter sends is sent
+    accepted-step : (st out : List ℕ) (r : EmitterState) → leaves (a-send.Sent r) st out ≡ sends d s e a literal → Shown (a-send.Sent r) st out
+    unfolding after
+    accepted-step st out r is = is ∙ sym (ap (after d s e a literal) (passed .0)) ∙ step-is d s e a literal
+
+module _ (d : Device) (s : List ℕ) (e : Emitter) (a : Send) (n : ℕ) where
+  -- the first emitter: of each cell the oldest placed, the input cell stored
+  pub sent : Accepted n ≡ sendVerdict false d s e a → (m k : ℕ) (x st out : List ℕ) (r : EmitterState) → m ≡ planOf s .depth → k ≡ n
+      → x ≡ inputCells (F d s e a) (e .state .phase) (a .given)
+      → st ≡ moved (emitterDelay m) k (e .store) x
+      → out ≡ lineSymbol (F d s e a) (oldest (emitterDelay m) k (e .store) x)
+      → r ≡ record { phase = (e .state .phase + 1) % phases }
+      → leaves (a-send.Sent r) st out ≡ sendStep d s e a
+  unfolding sends first.accepted first.sentSymbol first.sentStore nextState frameOf
+  sent h m k x st out r em ek ex es eo er =
+      let all = ek ∙ passed false d s e a n h .1 in
+      let put : st ≡ first.sentStore (F d s e a) e (a .given) = es ∙ (λ i. moved (emitterDelay (em i)) (all i) (e .store) (ex i)) in
+      let out-is : out ≡ first.sentSymbol (F d s e a) e (a .given) = eo ∙ (λ i. lineSymbol (F d s e a) (oldest (emitterDelay (em i)) (all i) (e .store) (ex i))) in
+      let next : r ≡ nextState (F d s e a) (e .state) = er in
+      accepted-step false d s e a n h st out r (λ i. leaves (a-send.Sent (next i)) (put i) (out-is i))
+
+  -- the second: the input symbol has gone through the lines, and the cells that came out are placed
+  pub sent-through : Accepted n ≡ sendVerdict true d s e a → (m k : ℕ) (x st out : List ℕ) (r : EmitterState) → m ≡ planOf s .depth → k ≡ n
+      → x ≡ inputCells (F d s e a) (e .state .phase) (a .given)
+      → st ≡ figureStore m k (e .store) x
+      → out ≡ lineSymbol (F d s e a) (figureCells m k (e .store) x)
+      → r ≡ record { phase = (e .state .phase + 1) % phases }
+      → leaves (a-send.Sent r) st out ≡ figureSendStep d s e a
+  unfolding sends second.accepted second.sentSymbol second.sentStore nextState frameOf
+  sent-through h m k x st out r em ek ex es eo er =
+      let all = ek ∙ passed true d s e a n h .1 in
+      let put : st ≡ second.sentStore (F d s e a) e (a .given) = es ∙ (λ i. figureStore (em i) (all i) (e .store) (ex i)) in
+      let out-is : out ≡ second.sentSymbol (F d s e a) e (a .given) = eo ∙ (λ i. lineSymbol (F d s e a) (figureCells (em i) (all i) (e .store) (ex i))) in
+      let next : r ≡ nextState (F d s e a) (e .state) = er in
+      accepted-step true d s e a n h st out r (λ i. leaves (a-send.Sent (next i)) (put i) (out-is i))

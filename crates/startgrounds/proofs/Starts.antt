@@ -1,7 +1,7 @@
 -- The verdict on a fresh start: one law for each return, what it says where no ground holds, and what the start then answers and leaves. Assumes
 -- nothing.
 use mathlib.Core.Path.{_≡_, refl, sym, ap, _∙_, subst}
-use mathlib.Core.Bool.{Bool}
+use mathlib.Core.Bool.{Bool, true, false}
 use mathlib.Core.List.{List, _++_}
 use Prim.Native.Nat.{ℕ, _-_, _*_, _≤_, _<_}
 use native.Mathlib.Nat.{mul-le-mul}
@@ -10,7 +10,7 @@ use lib.Dec.{leb, ltb}
 use lib.ListN.{length, getD, take, replicate}
 use lib.Seq.{sets, take-at}
 use borrow.Author.Tests.{lt-ltb, le-ltb, le-leb, lt-leb, leb-false, ltb-false}
-use Rattle.counting.specs.Search.{when}
+use Rattle.counting.specs.Search.{pick, when}
 use Rattle.rules.specs.declared.Device.{Device}
 use Rattle.rules.specs.declared.Finding.{Finding}
 use Rattle.rules.specs.declared.Finding.the-variants.{Fine, Ground}
@@ -27,7 +27,8 @@ use Rattle.rules.specs.Grounds.{_else_, ground?, grounds1to15, answer, verdict}
 use Rattle.rules.specs.Frame.{Frame, frameOf, cells, spot, filler}
 use Rattle.rules.specs.Places.{receiverDelay, placesBefore}
 use Rattle.rules.specs.Store.{emitterPlaces, receiverPlaces, freshStore, fillerStore}
-use Rattle.rules.specs.Steps.{Starting, starts, ground16, shortStore, startGrounds, frameStart, startStep}
+use Rattle.rules.specs.Steps as first
+use Rattle.rules.specs.Steps.{Starting, starts, ground16, shortStore, startGrounds, startStep}
 use Rattle.rules.specs.Receive.{Listening, listens, frameListen, listenStep}
 use Rattle.rules.proofs.Findings.{both-fine, when-fine}
 use Rattle.facts.proofs.Accepted.{long, depth-in}
@@ -36,9 +37,13 @@ use Rattle.rules.proofs.Answered.{accepted-is, refused-is, accepted-cells}
 use Rattle.verdicts.proofs.Verdicts.{else-assoc, no-ground, first-ground}
 use Rattle.spots.proofs.Frames.{cells-le}
 use Rattle.places.proofs.Sizes.{both-sizes}
+use Rattle.figure.specs.Steps as second
+use Rattle.figure.specs.Steps.{ground27, figureStartGrounds, freshLiteral, figureStartStep}
+use Rattle.figure.specs.Needs.{places17, places27, freshGrounds, startOf}
+use Rattle.figure.proofs.Needs.{first-start, second-start}
 use Rattle.flushes.specs.Spotted.{Spotted}
 use Rattle.flushes.proofs.Fresh.{all-filler}
-use Rattle.startgrounds.specs.Admit.{phaseVerdict, startFinding, emitterVerdict, receiverAnswer}
+use Rattle.startgrounds.specs.Admit.{phaseVerdict, startFinding, emitterVerdict, none, receiverAnswer}
 
 -- ---- the numbers of a start
 
@@ -90,46 +95,61 @@ module _ (d : Device) (s : List ℕ) (j : ℕ) where
       let both = both-fine (grounds1to15 d s) (ground16 (frameOf d (planOf s)) j) (a .0) in
       record { fine = both .0; long = long d s (both .0); all = a .1; inside = leb-false phases j (when-fine 16 0 (leb phases j) (both .1)) }
 
--- ---- grounds 1 to 17, of an end whose store needs so many places
+-- ---- grounds 1 to 17 and 27, of an end whose store needs so many places
 
-module _ (places : Frame → ℕ) (d : Device) (s : List ℕ) (j : ℕ) (store : List ℕ) where
-  -- what is found, as a function of what is found first and of the test of 17
-  found : Finding → Bool → Finding
-  found f b = f else ground? 17 (when b 0)
+module _ (by17 by27 : Frame → ℕ) (d : Device) (s : List ℕ) (j : ℕ) (store : List ℕ) where
+  abbrev need : ℕ
+  need = by17 (frameOf d (planOf s))
+
+  abbrev lines : ℕ
+  lines = by27 (frameOf d (planOf s))
+
+  -- what is found, as a function of what is found first and of the tests of 17 and 27
+  found : Finding → Bool → Bool → Finding
+  found f b c = f else ground? 17 (when b 0) else ground? 27 (when c 0)
 
   first16 : Finding
   first16 = grounds1to15 d s else ground16 (frameOf d (planOf s)) j
 
-  found-is : startFinding places d s j store ≡ found first16 (ltb (length store) (places (frameOf d (planOf s))))
-  unfolding found first16 startFinding startGrounds shortStore
-  found-is = sym (else-assoc (grounds1to15 d s) (ground16 (frameOf d (planOf s)) j) (ground? 17 (when (ltb (length store) (places (frameOf d (planOf s)))) 0)))
+  found-is : startFinding by17 by27 d s j store ≡ found first16 (ltb (length store) need) (ltb (length store) lines)
+  unfolding found first16 startFinding freshGrounds ground27 shortStore
+  found-is = sym (else-assoc (grounds1to15 d s) (ground16 (frameOf d (planOf s)) j) (ground? 17 (when (ltb (length store) need) 0) else ground? 27 (when (ltb (length store) lines) 0)))
 
   -- one law for each return
-  pub by-earlier : (g place : ℕ) → Refused g place ≡ phaseVerdict d s j → startFinding places d s j store ≡ Ground g place
+  pub by-earlier : (g place : ℕ) → Refused g place ≡ phaseVerdict d s j → startFinding by17 by27 d s j store ≡ Ground g place
   unfolding phaseVerdict found first16
-  by-earlier g place e = found-is ∙ ap (λ (f : Finding). found f (ltb (length store) (places (frameOf d (planOf s))))) (refused-is first16 g place (cells (frameOf d (planOf s))) e)
+  by-earlier g place e =
+      found-is ∙ ap (λ (f : Finding). found f (ltb (length store) need) (ltb (length store) lines)) (refused-is first16 g place (cells (frameOf d (planOf s))) e)
 
   module _ (n : ℕ) (ok : Accepted n ≡ phaseVerdict d s j) where
     passed : first16 ≡ Fine
     unfolding phaseVerdict first16
     passed = accepted-is first16 n (cells (frameOf d (planOf s))) ok .0
 
-    pub by-store : length store < places (frameOf d (planOf s)) → startFinding places d s j store ≡ Ground 17 0
+    pub by-store : length store < need → startFinding by17 by27 d s j store ≡ Ground 17 0
     unfolding found
-    by-store h = found-is ∙ (λ i. found (passed i) (lt-ltb (length store) (places (frameOf d (planOf s))) h i))
+    by-store h = found-is ∙ (λ i. found (passed i) (lt-ltb (length store) need h i) (ltb (length store) lines))
 
-    pub by-none : places (frameOf d (planOf s)) ≤ length store → startFinding places d s j store ≡ Fine
+    pub by-lines : need ≤ length store → length store < lines → startFinding by17 by27 d s j store ≡ Ground 27 0
     unfolding found
-    by-none h = found-is ∙ (λ i. found (passed i) (le-ltb (length store) (places (frameOf d (planOf s))) h i))
+    by-lines h l = found-is ∙ (λ i. found (passed i) (le-ltb (length store) need h i) (lt-ltb (length store) lines l i))
+
+    pub by-none : need ≤ length store → lines ≤ length store → startFinding by17 by27 d s j store ≡ Fine
+    unfolding found
+    by-none h l = found-is ∙ (λ i. found (passed i) (le-ltb (length store) need h i) (le-ltb (length store) lines l i))
 
   -- what is known where nothing is found
-  nothing-found : startFinding places d s j store ≡ Fine → (Accepted (cells (frameOf d (planOf s))) ≡ phaseVerdict d s j) × (places (frameOf d (planOf s)) ≤ length store)
+  nothing-found : startFinding by17 by27 d s j store ≡ Fine
+      → (Accepted (cells (frameOf d (planOf s))) ≡ phaseVerdict d s j) × (need ≤ length store) × (lines ≤ length store)
   unfolding found first16 phaseVerdict
   nothing-found e =
-      let short : Bool = ltb (length store) (places (frameOf d (planOf s))) in
-      let both = both-fine first16 (ground? 17 (when short 0)) (sym found-is ∙ e) in (
+      let short : Finding = ground? 17 (when (ltb (length store) need) 0) in
+      let few-lines : Finding = ground? 27 (when (ltb (length store) lines) 0) in
+      let both = both-fine first16 (short else few-lines) (sym found-is ∙ e) in
+      let late = both-fine short few-lines (both .1) in (
         sym (ap (λ (f : Finding). answer f (cells (frameOf d (planOf s)))) (both .0)),
-        ltb-false (length store) (places (frameOf d (planOf s))) (when-fine 17 0 short (both .1)),
+        ltb-false (length store) need (when-fine 17 0 _ (late .0)),
+        ltb-false (length store) lines (when-fine 27 0 _ (late .1)),
       )
 
 -- ---- what the start then answers and leaves
@@ -145,46 +165,62 @@ after-else x r (Ground n place) g = refl
 
 -- ---- a fresh emitter
 
-module _ (d : Device) (s : List ℕ) (j : ℕ) (store : List ℕ) where
+module _ (literal : Bool) (d : Device) (s : List ℕ) (j : ℕ) (store : List ℕ) where
+  abbrev pub finds : Finding
+  finds = startFinding (places17 literal) (places27 literal) d s j store
+
   -- from what is found to the verdict
-  pub emitter-refused : (g place : ℕ) → startFinding emitterPlaces d s j store ≡ Ground g place → Refused g place ≡ emitterVerdict d s j store
+  pub emitter-refused : (g place : ℕ) → finds ≡ Ground g place → Refused g place ≡ emitterVerdict literal d s j store
   unfolding emitterVerdict
   emitter-refused g place e = sym (ap (λ (f : Finding). answer f (cells (frameOf d (planOf s)))) e)
 
-  pub emitter-accepted : (n : ℕ) → n ≡ cells (frameOf d (planOf s)) → startFinding emitterPlaces d s j store ≡ Fine → Accepted n ≡ emitterVerdict d s j store
+  pub emitter-accepted : (n : ℕ) → n ≡ cells (frameOf d (planOf s)) → finds ≡ Fine → Accepted n ≡ emitterVerdict literal d s j store
   unfolding emitterVerdict
   emitter-accepted n en e = ap (λ (k : ℕ). Accepted k) en ∙ sym (ap (λ (f : Finding). answer f (cells (frameOf d (planOf s)))) e)
 
   -- and back
-  verdict-fine : (n : ℕ) → Accepted n ≡ emitterVerdict d s j store → (startFinding emitterPlaces d s j store ≡ Fine) × (n ≡ cells (frameOf d (planOf s)))
+  verdict-fine : (n : ℕ) → Accepted n ≡ emitterVerdict literal d s j store → (finds ≡ Fine) × (n ≡ cells (frameOf d (planOf s)))
   unfolding emitterVerdict
-  verdict-fine n e = accepted-is (startFinding emitterPlaces d s j store) n (cells (frameOf d (planOf s))) e
+  verdict-fine n e = accepted-is finds n (cells (frameOf d (planOf s))) e
 
-  verdict-ground : (g place : ℕ) → Refused g place ≡ emitterVerdict d s j store → startFinding emitterPlaces d s j store ≡ Ground g place
+  verdict-ground : (g place : ℕ) → Refused g place ≡ emitterVerdict literal d s j store → finds ≡ Ground g place
   unfolding emitterVerdict
-  verdict-ground g place e = refused-is (startFinding emitterPlaces d s j store) g place (cells (frameOf d (planOf s))) e
+  verdict-ground g place e = refused-is finds g place (cells (frameOf d (planOf s))) e
 
-  pub admitted : (n : ℕ) → Accepted n ≡ emitterVerdict d s j store → StartInOrder d s j n × (emitterPlaces (frameOf d (planOf s)) ≤ length store)
+  pub admitted : (n : ℕ) → Accepted n ≡ emitterVerdict literal d s j store
+      → StartInOrder d s j n × (places17 literal (frameOf d (planOf s)) ≤ length store) × (places27 literal (frameOf d (planOf s)) ≤ length store)
   admitted n e =
       let v = verdict-fine n e in
-      let known = nothing-found emitterPlaces d s j store (v .0) in
-      (in-order d s j n (ap (λ (k : ℕ). Accepted k) (v .1) ∙ known .0), known .1)
+      let known = nothing-found (places17 literal) (places27 literal) d s j store (v .0) in
+      (in-order d s j n (ap (λ (k : ℕ). Accepted k) (v .1) ∙ known .0), known .1, known .2)
 
-  start-after : Finding → Starting
-  start-after = after (starts (a-start.Started (record { phase = j })) (freshStore (frameOf d (planOf s)) j store)) (λ n place. starts (a-start.Refused n place) store)
+-- the store that either emitter's start makes
+abbrev pub madeStore : Bool → Frame → ℕ → List ℕ → List ℕ
+madeStore literal F j store = pick literal (freshLiteral F j store) (freshStore F j store)
 
-  start-is : start-after (startFinding emitterPlaces d s j store) ≡ startStep d s j store
-  unfolding startStep frameStart startFinding start-after after
-  start-is = after-else _ _ (grounds1to15 d s) (startGrounds (frameOf d (planOf s)) (emitterPlaces (frameOf d (planOf s))) j store)
+module _ (d : Device) (s : List ℕ) (j : ℕ) (store : List ℕ) where
+  start-after : Bool → Finding → Starting
+  start-after literal = after (starts (a-start.Started (record { phase = j })) (madeStore literal (frameOf d (planOf s)) j store)) (λ n place. starts (a-start.Refused n place) store)
 
-  pub start-refused : (g place : ℕ) → Refused g place ≡ emitterVerdict d s j store → starts (a-start.Refused g place) store ≡ startStep d s j store
+  start-is : (literal : Bool) → start-after literal (finds literal d s j store) ≡ startOf literal d s j store
+  unfolding startStep first.frameStart figureStartStep second.frameStart startFinding start-after after
+  start-is false =
+      ap (λ (f : Finding). start-after false (grounds1to15 d s else f)) (first-start (frameOf d (planOf s)) (emitterPlaces (frameOf d (planOf s))) j store)
+      ∙ after-else _ _ (grounds1to15 d s) (startGrounds (frameOf d (planOf s)) (emitterPlaces (frameOf d (planOf s))) j store)
+  start-is true =
+      ap (λ (f : Finding). start-after true (grounds1to15 d s else f)) (second-start (frameOf d (planOf s)) j store)
+      ∙ after-else _ _ (grounds1to15 d s) (figureStartGrounds (frameOf d (planOf s)) j store)
+
+module _ (literal : Bool) (d : Device) (s : List ℕ) (j : ℕ) (store : List ℕ) where
+  pub start-refused : (g place : ℕ) → Refused g place ≡ emitterVerdict literal d s j store → starts (a-start.Refused g place) store ≡ startOf literal d s j store
   unfolding start-after after
-  start-refused g place e = sym (ap start-after (verdict-ground g place e)) ∙ start-is
+  start-refused g place e = sym (ap (start-after d s j store literal) (verdict-ground literal d s j store g place e)) ∙ start-is d s j store literal
 
-  pub started : (n : ℕ) → Accepted n ≡ emitterVerdict d s j store → (st : List ℕ) → st ≡ freshStore (frameOf d (planOf s)) j store
-      → starts (a-start.Started (record { phase = j })) st ≡ startStep d s j store
+  pub started : (n : ℕ) → Accepted n ≡ emitterVerdict literal d s j store → (st : List ℕ) → st ≡ madeStore literal (frameOf d (planOf s)) j store
+      → starts (a-start.Started (record { phase = j })) st ≡ startOf literal d s j store
   unfolding start-after after
-  started n e st made = ap (starts (a-start.Started (record { phase = j }))) made ∙ sym (ap start-after (verdict-fine n e .0)) ∙ start-is
+  started n e st made =
+      ap (starts (a-start.Started (record { phase = j }))) made ∙ sym (ap (start-after d s j store literal) (verdict-fine literal d s j store n e .0)) ∙ start-is d s j store literal
 
 -- ---- a fresh receiver
 
@@ -203,39 +239,41 @@ ground-is Fine g k m e = let z : _≡_ {A = ℕ} 0 1 = cc in absurd (omega arith
 ground-is (Ground a b) g k m e = cc
 
 module _ (d : Device) (s : List ℕ) (j : ℕ) (store : List ℕ) where
-  answer-is : receiverAnswer d s j store ≡ counted (startFinding receiverPlaces d s j store) (receiverPlaces (frameOf d (planOf s)))
+  answer-is : receiverAnswer d s j store ≡ counted (startFinding receiverPlaces none d s j store) (receiverPlaces (frameOf d (planOf s)))
   unfolding receiverAnswer counted after
   answer-is = refl
 
   -- from what is found to the answer
-  pub receiver-refused : (g place : ℕ) → startFinding receiverPlaces d s j store ≡ Ground g place → a-count.Refused g place ≡ receiverAnswer d s j store
+  pub receiver-refused : (g place : ℕ) → startFinding receiverPlaces none d s j store ≡ Ground g place → a-count.Refused g place ≡ receiverAnswer d s j store
   unfolding counted after
   receiver-refused g place e = sym (answer-is ∙ ap (λ (f : Finding). counted f (receiverPlaces (frameOf d (planOf s)))) e)
 
-  pub receiver-counted : (n : ℕ) → n ≡ receiverPlaces (frameOf d (planOf s)) → startFinding receiverPlaces d s j store ≡ Fine → a-count.Count n ≡ receiverAnswer d s j store
+  pub receiver-counted : (n : ℕ) → n ≡ receiverPlaces (frameOf d (planOf s)) → startFinding receiverPlaces none d s j store ≡ Fine → a-count.Count n ≡ receiverAnswer d s j store
   unfolding counted after
   receiver-counted n en e = ap (λ (k : ℕ). a-count.Count k) en ∙ sym (answer-is ∙ ap (λ (f : Finding). counted f (receiverPlaces (frameOf d (planOf s)))) e)
 
   -- and back
-  answer-fine : (n : ℕ) → a-count.Count n ≡ receiverAnswer d s j store → (startFinding receiverPlaces d s j store ≡ Fine) × (n ≡ receiverPlaces (frameOf d (planOf s)))
-  answer-fine n e = count-is (startFinding receiverPlaces d s j store) n (receiverPlaces (frameOf d (planOf s))) (e ∙ answer-is)
+  answer-fine : (n : ℕ) → a-count.Count n ≡ receiverAnswer d s j store → (startFinding receiverPlaces none d s j store ≡ Fine) × (n ≡ receiverPlaces (frameOf d (planOf s)))
+  answer-fine n e = count-is (startFinding receiverPlaces none d s j store) n (receiverPlaces (frameOf d (planOf s))) (e ∙ answer-is)
 
   pub places-fit : (n : ℕ) → a-count.Count n ≡ receiverAnswer d s j store → n ≤ length store
   places-fit n e =
       let v = answer-fine n e in
-      omega (arith, v .1, nothing-found receiverPlaces d s j store (v .0) .1)
+      omega (arith, v .1, nothing-found receiverPlaces none d s j store (v .0) .1)
 
   listen-after : Finding → Listening
   listen-after = after (listens (a-listen.Started (record { phase = j; heard = 0 })) (fillerStore (frameOf d (planOf s)) store)) (λ n place. listens (a-listen.Refused n place) store)
 
-  listen-is : listen-after (startFinding receiverPlaces d s j store) ≡ listenStep d s j store
+  listen-is : listen-after (startFinding receiverPlaces none d s j store) ≡ listenStep d s j store
   unfolding listenStep frameListen startFinding listen-after after
-  listen-is = after-else _ _ (grounds1to15 d s) (startGrounds (frameOf d (planOf s)) (receiverPlaces (frameOf d (planOf s))) j store)
+  listen-is =
+      ap (λ (f : Finding). listen-after (grounds1to15 d s else f)) (first-start (frameOf d (planOf s)) (receiverPlaces (frameOf d (planOf s))) j store)
+      ∙ after-else _ _ (grounds1to15 d s) (startGrounds (frameOf d (planOf s)) (receiverPlaces (frameOf d (planOf s))) j store)
 
   pub listen-refused : (g place : ℕ) → a-count.Refused g place ≡ receiverAnswer d s j store → listens (a-listen.Refused g place) store ≡ listenStep d s j store
   unfolding listen-after after
   listen-refused g place e =
-      sym (ap listen-after (ground-is (startFinding receiverPlaces d s j store) g place (receiverPlaces (frameOf d (planOf s))) (e ∙ answer-is))) ∙ listen-is
+      sym (ap listen-after (ground-is (startFinding receiverPlaces none d s j store) g place (receiverPlaces (frameOf d (planOf s))) (e ∙ answer-is))) ∙ listen-is
 
   pub listening : (n : ℕ) → a-count.Count n ≡ receiverAnswer d s j store → (st : List ℕ) → st ≡ sets store 0 (replicate n filler)
       → listens (a-listen.Started (record { phase = j; heard = 0 })) st ≡ listenStep d s j store

@@ -1,5 +1,6 @@
 -- What a fresh start finds before it fills the store, and what is then known. Assumes nothing.
 use mathlib.Core.List.{List}
+use mathlib.Core.Bool.{Bool}
 use Prim.Native.Nat.{ℕ}
 use lib.ListN.{take}
 use Rattle.rules.specs.declared.Device.{Device}
@@ -12,26 +13,31 @@ use Rattle.rules.specs.declared.Verdict.the-variants.{Accepted, Refused}
 use Rattle.rules.specs.Plan.{planOf}
 use Rattle.rules.specs.Grounds.{_else_, grounds1to15, answer}
 use Rattle.rules.specs.Frame.{Frame, frameOf, cells}
-use Rattle.rules.specs.Store.{emitterPlaces, receiverPlaces}
-use Rattle.rules.specs.Steps.{ground16, startGrounds}
+use Rattle.rules.specs.Store.{receiverPlaces}
+use Rattle.rules.specs.Steps.{ground16}
+use Rattle.figure.specs.Needs.{places17, places27, freshGrounds}
 use Rattle.flushes.specs.Spotted.{Spotted}
 
 -- the first of grounds 1 to 16 that holds for a start at phase j, or N_I
 unfoldable pub phaseVerdict : Device → List ℕ → ℕ → Verdict
 phaseVerdict d s j = answer (grounds1to15 d s else ground16 (frameOf d (planOf s)) j) (cells (frameOf d (planOf s)))
 
--- what a start at phase j with this store finds of grounds 1 to 17; `places` says how many its end needs
-unfoldable pub startFinding : (Frame → ℕ) → Device → List ℕ → ℕ → List ℕ → Finding
-startFinding places d s j store = grounds1to15 d s else startGrounds (frameOf d (planOf s)) (places (frameOf d (planOf s))) j store
+-- what a start at phase j with this store finds of grounds 1 to 17 and 27; by17 and by27 say how many places they ask for
+unfoldable pub startFinding : (Frame → ℕ) → (Frame → ℕ) → Device → List ℕ → ℕ → List ℕ → Finding
+startFinding by17 by27 d s j store = grounds1to15 d s else freshGrounds (frameOf d (planOf s)) (by17 (frameOf d (planOf s))) (by27 (frameOf d (planOf s))) j store
 
--- a fresh emitter: the first ground that holds, or N_I
-unfoldable pub emitterVerdict : Device → List ℕ → ℕ → List ℕ → Verdict
-emitterVerdict d s j store = answer (startFinding emitterPlaces d s j store) (cells (frameOf d (planOf s)))
+-- a fresh emitter, the first or the second, whose store is literal: the first ground that holds, or N_I
+unfoldable pub emitterVerdict : Bool → Device → List ℕ → ℕ → List ℕ → Verdict
+emitterVerdict literal d s j store = answer (startFinding (places17 literal) (places27 literal) d s j store) (cells (frameOf d (planOf s)))
+
+-- 27 asks for nothing of a receiver
+abbrev pub none : Frame → ℕ
+none F = 0
 
 -- a fresh receiver: the first ground that holds, or the number of its places
 unfoldable pub receiverAnswer : Device → List ℕ → ℕ → List ℕ → CountAnswer
 receiverAnswer d s j store =
-    elim (startFinding receiverPlaces d s j store) [
+    elim (startFinding receiverPlaces none d s j store) [
       | Fine ↦ a-count.Count (receiverPlaces (frameOf d (planOf s)))
       | Ground n place ↦ a-count.Refused n place
     ]

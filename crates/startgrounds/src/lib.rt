@@ -1,5 +1,6 @@
 // What fresh starts share over either form of a cell: grounds 1 to 17, of an emitter and of a receiver, each with the places that its store
-// needs; and for an emitter the subcarriers of the cells, from which its places are made. specs/Admit says what is found.
+// needs, and 27 of the second emitter, whose store is literal; and for an emitter the subcarriers of the cells, from which its places are
+// made. specs/Admit says what is found.
 ghost use mathlib.Core.Path.{_≡_};
 ghost use mathlib.Core.List.{List};
 ghost use Prim.Native.Nat.{ℕ, _≤_};
@@ -32,11 +33,18 @@ fn admit(d: Device, plan: &[u8], phase: u32, marks: &mut [u16; 4096]) -> Verdict
     }
 }
 
-// Grounds 1 to 17 of a fresh emitter whose store has so many places: the first that holds, or N_I. Where none holds, the first N_I places of
-// kc are the subcarriers of the cells.
-pub fn admit_emitter(d: Device, plan: &[u8], phase: u32, places: usize, kc: &mut [u16]) -> Verdict
+// Grounds 1 to 17 of a fresh emitter whose store has so many places: the first that holds, or N_I. Where the store is literal, its places are
+// asked by 27, and not by 17. Where none holds, the first N_I places of kc are the subcarriers of the cells.
+pub fn admit_emitter(
+    d: Device,
+    plan: &[u8],
+    phase: u32,
+    places: usize,
+    kc: &mut [u16],
+    literal: bool,
+) -> Verdict
     requires { ⌜ Fits d × (d .depthMax ≤ phases) × (length (now kc) ≡ capacity) ⌝ }
-    ensures answer { λ r. ⌜ ((s : List ℕ) → length s ≡ places → r ≡ emitterVerdict d (now (plan .entry)) phase s) ⌝ }
+    ensures answer { λ r. ⌜ ((s : List ℕ) → length s ≡ places → r ≡ emitterVerdict literal d (now (plan .entry)) phase s) ⌝ }
     ensures spotted { λ r. ⌜ SpottedIf r d (now (plan .entry)) (now (kc .exit)) ⌝ }
 {
     let mut marks = [0u16; 4096];
@@ -45,8 +53,11 @@ pub fn admit_emitter(d: Device, plan: &[u8], phase: u32, places: usize, kc: &mut
         Verdict::Accepted(n) => {
             let ni = n as usize;
             let m = records::number_at(plan, 6);
-            if places < places::emitter_places(m, ni) {
+            if places < figure::places_17(literal, m, ni) {
                 return Verdict::Refused(17, 0);
+            }
+            if places < figure::places_27(literal, m, ni) {
+                return Verdict::Refused(27, 0);
             }
             let mut car = [0u16; 4096];
             spots::spots(d, plan, &marks, &mut car, &mut kc[..ni]);

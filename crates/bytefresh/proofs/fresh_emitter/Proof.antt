@@ -39,13 +39,13 @@ abbrev device : tie.After-n → Device
 device c = c .before .before .before .before .before .khz50-device .result
 
 -- no ground of 1 to 17 holds
-accepted : (c : tie.After-n) → Accepted (c .n .given .0 .0) ≡ emitterVerdict (device c) (start c .args .plan .now) (start c .args .phase) (cellsOf (start c .args .store .now))
+accepted : (c : tie.After-n) → Accepted (c .n .given .0 .0) ≡ emitterVerdict false (device c) (start c .args .plan .now) (start c .args .phase) (cellsOf (start c .args .store .now))
 accepted c = sym (c .n .given .1) ∙ c .before .before .before .admit-emitter .ensures .0 _ (length-cells (start c .args .store .now))
 
 known : (c : tie.After-n)
     → StartInOrder (device c) (start c .args .plan .now) (start c .args .phase) (c .n .given .0 .0)
     × (emitterPlaces (frameOf (device c) (planOf (start c .args .plan .now))) ≤ length (cellsOf (start c .args .store .now)))
-known c = admitted _ _ _ _ _ (accepted c)
+known c = let a = admitted false _ _ _ _ _ (accepted c) in (a .0, a .1)
 
 places-from : (c : tie.After-n) → Spotted (device c) (start c .args .plan .now) (take (c .n .given .0 .0) (c .before .before .before .admit-emitter .last .1 .1 .1 .1 .0))
 places-from c =
@@ -111,7 +111,7 @@ returns-2 c =
     let cells = cellsOf (a .store .now) in
     let ok = even (c .before .before .before .before .before .before .before) in
     let met = sym (c .before .g .given .1) ∙ c .before .before .before .before .admit-emitter .ensures .0 _ (length-cells (a .store .now)) in
-    start-written _ (a .store .now) cells _ (sym (ok .1)) (start-refused _ (a .plan .now) (a .phase) cells _ _ met)
+    start-written _ (a .store .now) cells _ (sym (ok .1)) (start-refused false _ (a .plan .now) (a .phase) cells _ _ met)
     ∙ ap (λ (d : Device). startedBytes (startStep d (a .plan .now) (a .phase) cells)) (c .before .before .before .before .before .before .khz50-device .ensures)
     ∙ even-start khz50 (a .plan .now) (a .phase) (a .store .now) (ok .0)
 
@@ -123,7 +123,7 @@ returns-3 c =
     let k = c .before .before .before .before .before .before in
     let a = start k .args in
     let cells = cellsOf (a .store .now) in
-    start-written _ _ _ _ (c .before .before .fresh-places .ensures) (started _ (a .plan .now) (a .phase) cells _ (accepted k) _ refl)
+    start-written _ _ _ _ (c .before .before .fresh-places .ensures) (started false _ (a .plan .now) (a .phase) cells _ (accepted k) _ refl)
     ∙ ap (λ (d : Device). startedBytes (startStep d (a .plan .now) (a .phase) cells)) (k .before .before .before .before .before .khz50-device .ensures)
     ∙ even-start khz50 (a .plan .now) (a .phase) (a .store .now) (even (k .before .before .before .before .before .before) .0)
 

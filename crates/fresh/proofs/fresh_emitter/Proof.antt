@@ -2,6 +2,7 @@
 use borrow.Author.Needs.{needs}
 use Prim.Native.Nat.{_≤_}
 use mathlib.Core.Path.{_≡_, refl, sym, ap, _∙_, subst}
+use mathlib.Core.Bool.{false}
 use native.Mathlib.Omega.{arith}
 use lib.ListN.{length, take}
 use lib.Seq.{length-take-le}
@@ -27,13 +28,13 @@ abbrev device : tie.After-n → Device
 device c = c .before .before .before .before .before .khz50-device .result
 
 -- no ground of 1 to 17 holds
-accepted : (c : tie.After-n) → Accepted (c .n .given .0 .0) ≡ emitterVerdict (device c) (start c .args .plan .now) (start c .args .phase) (start c .args .store .now)
+accepted : (c : tie.After-n) → Accepted (c .n .given .0 .0) ≡ emitterVerdict false (device c) (start c .args .plan .now) (start c .args .phase) (start c .args .store .now)
 accepted c = sym (c .n .given .1) ∙ c .before .before .before .admit-emitter .ensures .0 _ refl
 
 known : (c : tie.After-n)
     → StartInOrder (device c) (start c .args .plan .now) (start c .args .phase) (c .n .given .0 .0)
     × (emitterPlaces (frameOf (device c) (planOf (start c .args .plan .now))) ≤ length (start c .args .store .now))
-known c = admitted _ _ _ _ _ (accepted c)
+known c = let a = admitted false _ _ _ _ _ (accepted c) in (a .0, a .1)
 
 places-from : (c : tie.After-n) → Spotted (device c) (start c .args .plan .now) (take (c .n .given .0 .0) (c .before .before .before .admit-emitter .last .1 .1 .1 .1 .0))
 places-from c =
@@ -82,7 +83,7 @@ returns : tie.Need-returns
 returns c =
     let a = c .before .before .before .before .before .before .before .before .before .args in
     let is = c .before .before .before .before .before .before .khz50-device .ensures in
-    start-refused _ (a .plan .now) (a .phase) (a .store .now) _ _ (sym (c .before .g .given .1) ∙ c .before .before .before .before .admit-emitter .ensures .0 _ refl)
+    start-refused false _ (a .plan .now) (a .phase) (a .store .now) _ _ (sym (c .before .g .given .1) ∙ c .before .before .before .before .admit-emitter .ensures .0 _ refl)
     ∙ ap (λ (d : Device). startStep d (a .plan .now) (a .phase) (a .store .now)) is
 
 same-length : tie.Need-same-length
@@ -92,7 +93,7 @@ returns-2 : tie.Need-returns-2
 returns-2 c =
     let k = c .before .before .before .before .before .before in
     let a = start k .args in
-    started _ (a .plan .now) (a .phase) (a .store .now) _ (accepted k) _ (c .before .before .fresh-places .ensures)
+    started false _ (a .plan .now) (a .phase) (a .store .now) _ (accepted k) _ (c .before .before .fresh-places .ensures)
     ∙ ap (λ (d : Device). startStep d (a .plan .now) (a .phase) (a .store .now)) (k .before .before .before .before .before .khz50-device .ensures)
 
 pub fresh-emitter-spec : {M : Type 1} → statement M

@@ -16,7 +16,7 @@ use Rattle.verdicts.proofs.Verdicts.{first-ground}
 use Rattle.steps.specs.Ready.{Ready}
 use Rattle.steps.proofs.Accepted.{ready}
 use Rattle.sending.specs.Sent.{givenBy, at, giving}
-use Rattle.sendgrounds.proofs.Answers.{by-plan, by-profile}
+use Rattle.sendgrounds.proofs.Stages.{by-plan, by-profile}
 use Rattle.sendgrounds.proofs.admit.Statement.{statement}
 use Rattle.sendgrounds.proofs.admit.Tie as tie
 
@@ -58,7 +58,7 @@ unfolding frameOf
 returns c store ds room es er t =
     let k = c .before .before .before .before .before in
     let a = k .before .before .before .before .before .before .before .before .args in
-    (by-profile (a .d) (a .plan .now) (at (a .state) store) (giving (givenBy (a .flushing) ds) (a .profile .now) room) (accepted k .fine) _ _ (sym (c .before .g2 .given .1) ∙ c .before .before .before .profile-found .ensures ∙ found (frameOf (a .d) (planOf (a .plan .now))) (a .profile .now) (a .flushing) ds), tt)
+    (by-profile (a .literal) (a .d) (a .plan .now) (at (a .state) store) (giving (givenBy (a .flushing) ds) (a .profile .now) room) (accepted k .fine) _ _ (sym (c .before .g2 .given .1) ∙ c .before .before .before .profile-found .ensures ∙ found (frameOf (a .d) (planOf (a .plan .now))) (a .profile .now) (a .flushing) ds), tt)
 
 admit-step-requires : tie.Need-admit-step-requires
 admit-step-requires c κs =
@@ -69,7 +69,7 @@ admit-step-requires c κs =
 returns-2 : tie.Need-returns-2
 returns-2 c store ds room es er t =
     let a = c .before .before .before .before .before .before .before .before .before .args in
-    (by-plan (a .d) (a .plan .now) (at (a .state) store) (giving (givenBy (a .flushing) ds) (a .profile .now) room) _ _ (first-ground (a .d) (a .plan .now) _ _ (sym (c .before .g .given .1) ∙ c .before .before .before .study .ensures .0)), tt)
+    (by-plan (a .literal) (a .d) (a .plan .now) (at (a .state) store) (giving (givenBy (a .flushing) ds) (a .profile .now) room) _ _ (first-ground (a .d) (a .plan .now) _ _ (sym (c .before .g .given .1) ∙ c .before .before .before .study .ensures .0)), tt)
 
 same-length : tie.Need-same-length
 same-length c = search needs

@@ -7,6 +7,7 @@ use mathlib.Core.List.{List, _++_}
 use native.Mathlib.Omega.{arith}
 use lib.ListN.{length, take, drop, replicate, length-replicate, List·getD-append}
 use lib.Seq.{length-take-le, length-front, take-at}
+use Rattle.counting.specs.Search.{pick}
 use Rattle.counting.proofs.Bools.{by-test}
 use Rattle.rules.specs.declared.Finding.the-variants.{Fine, Ground}
 use Rattle.rules.specs.declared.CountAnswer.{CountAnswer}
@@ -15,17 +16,18 @@ use Rattle.rules.specs.Fits.{capacity}
 use Rattle.rules.specs.Plan.{planOf}
 use Rattle.rules.specs.Grounds.{_else_}
 use Rattle.rules.specs.Frame.{Frame, frameOf, dataCount}
-use Rattle.rules.specs.Store.{emitterPlaces}
 use Rattle.rules.specs.Loads.{ground25}
 use Rattle.rules.specs.Steps.{Emitter, Send, ground16, ground17, profileGround}
 use Rattle.spots.proofs.Frames.{cells-le}
 use Rattle.spots.proofs.Parts.{part-size}
 use Rattle.places.proofs.Sizes.{emitter-places-are}
+use Rattle.figure.specs.Needs.{places17, places27}
+use Rattle.figure.proofs.Sizes.{literal-places-are}
 use Rattle.steps.specs.Ready.{Ready, readyAnswer, Made, MadeIf}
 use Rattle.steps.proofs.Accepted.{cells-low}
 use Rattle.steps.proofs.Lent.{ready-count, ready-refused}
 use Rattle.sending.specs.Sent.{givenBy, at, giving}
-use Rattle.sendgrounds.proofs.Answers.{by-lent, by-given}
+use Rattle.sendgrounds.proofs.Stages.{by-lent, by-lines, by-given}
 use Rattle.sendgrounds.proofs.admit_step.Statement.{statement}
 use Rattle.sendgrounds.proofs.admit_step.Tie as tie
 
@@ -63,48 +65,59 @@ deep : (c : tie.After-number-at) → c .number-at .result ≡ planOf (c .before 
 unfolding planOf
 deep c = c .number-at .ensures .0
 
-needed : (c : tie.After-emitter-places) → c .emitter-places .result ≡ emitterPlaces (frame (c .before .before .before .before .before .before .before))
+needed : (c : tie.After-places-17) → c .places-17 .result ≡ places17 (c .before .before .before .before .before .before .before .args .literal) (frame (c .before .before .before .before .before .before .before))
 unfolding frameOf
 needed c =
     let g = c .before .before .before .before .before .before .before in
-    c .emitter-places .ensures ∙ emitter-places-are (frame g) _ _ (deep (c .before .before)) (g .pre .0 .all)
+    c .places-17 .ensures ∙ ap (pick (g .args .literal) 0) (emitter-places-are (frame g) _ _ (deep (c .before .before)) (g .pre .0 .all))
+
+-- the places that 27 asks for
+needed-lines : (c : tie.After-places-27) → c .places-27 .result ≡ places27 (c .before .before .before .before .before .before .before .before .args .literal) (frame (c .before .before .before .before .before .before .before .before))
+unfolding frameOf
+needed-lines c =
+    let g = c .before .before .before .before .before .before .before .before in
+    c .places-27 .ensures ∙ ap (λ (n : ℕ). pick (g .args .literal) n 0) (literal-places-are (frame g) _ _ (deep (c .before .before .before)) (g .pre .0 .all))
 
 -- so `ready` answers
-answered : (c : tie.After-ready) (s y : List ℕ) → let g = c .before .before .before .before .before .before .before .before .before .before .before in let a = g .args in length s ≡ a .places → length y ≡ a .width → c .ready .result ≡ readyAnswer (frame g) (a .state .phase) (emitterPlaces (frame g)) s y (a .state .phase)
+answered : (c : tie.After-ready) (s y : List ℕ) → let g = c .before .before .before .before .before .before .before .before .before .before .before .before in let a = g .args in length s ≡ a .places → length y ≡ a .width → c .ready .result ≡ readyAnswer (frame g) (a .state .phase) (places17 (a .literal) (frame g)) s y (a .state .phase)
 answered c s y es ey =
-    let g = c .before .before .before .before .before .before .before .before .before .before .before in
+    let g = c .before .before .before .before .before .before .before .before .before .before .before .before in
     let a = g .args in
-    let told : c .ready .result ≡ readyAnswer (frame g) (a .state .phase) (c .before .before .before .before .emitter-places .result) s y (a .state .phase) = c .ready .ensures .0 s y es ey in
-    told ∙ ap (λ (n : ℕ). readyAnswer (frame g) (a .state .phase) n s y (a .state .phase)) (needed (c .before .before .before .before))
+    let told : c .ready .result ≡ readyAnswer (frame g) (a .state .phase) (c .before .before .before .before .before .places-17 .result) s y (a .state .phase) = c .ready .ensures .0 s y es ey in
+    told ∙ ap (λ (n : ℕ). readyAnswer (frame g) (a .state .phase) n s y (a .state .phase)) (needed (c .before .before .before .before .before))
 
 -- grounds 16 and 17 are passed, and the number is N_D
-passed : (c : tie.After-nd) (s y : List ℕ) → let a = c .before .before .before .before .before .before .before .before .before .before .before .before .before .before .before .args in let F = frame (c .before .before .before .before .before .before .before .before .before .before .before .before .before .before .before) in length s ≡ a .places → length y ≡ a .width
-    → (Fine ≡ (ground16 F (a .state .phase) else ground17 F (emitterPlaces F) s y)) × (c .nd .given .0 .0 ≡ dataCount F (a .state .phase))
+passed : (c : tie.After-nd) (s y : List ℕ) → let a = c .before .before .before .before .before .before .before .before .before .before .before .before .before .before .before .before .args in let F = frame (c .before .before .before .before .before .before .before .before .before .before .before .before .before .before .before .before) in length s ≡ a .places → length y ≡ a .width
+    → (Fine ≡ (ground16 F (a .state .phase) else ground17 F (places17 (a .literal) F) s y)) × (c .nd .given .0 .0 ≡ dataCount F (a .state .phase))
 passed c s y es ey =
-    let g = c .before .before .before .before .before .before .before .before .before .before .before .before .before .before .before in
+    let g = c .before .before .before .before .before .before .before .before .before .before .before .before .before .before .before .before in
     let a = g .args in
-    ready-count (frame g) (a .state .phase) (emitterPlaces (frame g)) s y (a .state .phase) _ (sym (c .nd .given .1) ∙ answered (c .before .before .before .before) s y es ey)
+    ready-count (frame g) (a .state .phase) (places17 (a .literal) (frame g)) s y (a .state .phase) _ (sym (c .nd .given .1) ∙ answered (c .before .before .before .before) s y es ey)
 
 -- the subcarriers and flags are made
-made : (c : tie.After-nd) → let last = c .before .before .before .before .ready .last .1 .1 .1 .1 .1 .1 .1 .1 .1 in Made (frame (c .before .before .before .before .before .before .before .before .before .before .before .before .before .before .before)) (c .before .before .before .before .before .before .before .before .before .before .before .before .before .before .before .args .state .phase) (last .0) (last .1 .0) (last .1 .1 .0)
+made : (c : tie.After-nd) → let last = c .before .before .before .before .ready .last .1 .1 .1 .1 .1 .1 .1 .1 .1 in Made (frame (c .before .before .before .before .before .before .before .before .before .before .before .before .before .before .before .before)) (c .before .before .before .before .before .before .before .before .before .before .before .before .before .before .before .before .args .state .phase) (last .0) (last .1 .0) (last .1 .1 .0)
 made c =
     let last = c .before .before .before .before .ready .last .1 .1 .1 .1 .1 .1 .1 .1 .1 in
-    let g = c .before .before .before .before .before .before .before .before .before .before .before .before .before .before .before in
+    let g = c .before .before .before .before .before .before .before .before .before .before .before .before .before .before .before .before in
     subst (λ (r : CountAnswer). MadeIf r (frame g) (g .args .state .phase) (last .0) (last .1 .0) (last .1 .1 .0)) (c .nd .given .1) (c .before .before .before .before .ready .ensures .1)
 
 -- the flags are so many, in an array that is whole again
-flags : (c : tie.After-nd) → length (c .before .before .before .before .ready .last .1 .1 .1 .1 .1 .1 .1 .1 .1 .1 .1 .0) ≡ c .before .before .before .before .before .before .before .before .before .before .before .before .before .before .before .args .n
-flags c = c .before .before .before .before .ready .kept .1 .1 .1 .1 .1 .1 .1 .1 .1 .1 .1 .0 ∙ part-size _ (low (c .before .before .before .before .before .before .before .before .before .before .before .before .before .before .before))
+flags : (c : tie.After-nd) → length (c .before .before .before .before .ready .last .1 .1 .1 .1 .1 .1 .1 .1 .1 .1 .1 .0) ≡ c .before .before .before .before .before .before .before .before .before .before .before .before .before .before .before .before .args .n
+flags c = c .before .before .before .before .ready .kept .1 .1 .1 .1 .1 .1 .1 .1 .1 .1 .1 .0 ∙ part-size _ (low (c .before .before .before .before .before .before .before .before .before .before .before .before .before .before .before .before))
 
-whole : (c : tie.After-nd) → length (c .before .before .before .before .ready .last .1 .1 .1 .1 .1 .1 .1 .1 .1 .1 .1 .0 ++ drop (c .before .before .before .before .before .before .before .before .before .before .before .before .before .before .before .args .n) (replicate capacity 0)) ≡ capacity
-whole c = length-front (replicate capacity 0) (c .before .before .before .before .ready .last .1 .1 .1 .1 .1 .1 .1 .1 .1 .1 .1 .0) (c .before .before .before .before .before .before .before .before .before .before .before .before .before .before .before .args .n) (c .before .before .before .before .ready .kept .1 .1 .1 .1 .1 .1 .1 .1 .1 .1 .1 .0) ∙ length-replicate {A = ℕ} capacity 0
+whole : (c : tie.After-nd) → length (c .before .before .before .before .ready .last .1 .1 .1 .1 .1 .1 .1 .1 .1 .1 .1 .0 ++ drop (c .before .before .before .before .before .before .before .before .before .before .before .before .before .before .before .before .args .n) (replicate capacity 0)) ≡ capacity
+whole c = length-front (replicate capacity 0) (c .before .before .before .before .ready .last .1 .1 .1 .1 .1 .1 .1 .1 .1 .1 .1 .0) (c .before .before .before .before .before .before .before .before .before .before .before .before .before .before .before .before .args .n) (c .before .before .before .before .ready .kept .1 .1 .1 .1 .1 .1 .1 .1 .1 .1 .1 .0) ∙ length-replicate {A = ℕ} capacity 0
 
 -- the same of the subcarriers of the cells
-carried : (c : tie.After-nd) → length (c .before .before .before .before .ready .last .1 .1 .1 .1 .1 .1 .1 .1 .1 .1 .0) ≡ c .before .before .before .before .before .before .before .before .before .before .before .before .before .before .before .args .n
-carried c = c .before .before .before .before .ready .kept .1 .1 .1 .1 .1 .1 .1 .1 .1 .1 .0 ∙ part-size _ (low (c .before .before .before .before .before .before .before .before .before .before .before .before .before .before .before))
+carried : (c : tie.After-nd) → length (c .before .before .before .before .ready .last .1 .1 .1 .1 .1 .1 .1 .1 .1 .1 .0) ≡ c .before .before .before .before .before .before .before .before .before .before .before .before .before .before .before .before .args .n
+carried c = c .before .before .before .before .ready .kept .1 .1 .1 .1 .1 .1 .1 .1 .1 .1 .0 ∙ part-size _ (low (c .before .before .before .before .before .before .before .before .before .before .before .before .before .before .before .before))
 
-all-carried : (c : tie.After-nd) → length (c .before .before .before .before .ready .last .1 .1 .1 .1 .1 .1 .1 .1 .1 .1 .0 ++ drop (c .before .before .before .before .before .before .before .before .before .before .before .before .before .before .before .args .n) (replicate capacity 0)) ≡ capacity
-all-carried c = length-front (replicate capacity 0) (c .before .before .before .before .ready .last .1 .1 .1 .1 .1 .1 .1 .1 .1 .1 .0) (c .before .before .before .before .before .before .before .before .before .before .before .before .before .before .before .args .n) (c .before .before .before .before .ready .kept .1 .1 .1 .1 .1 .1 .1 .1 .1 .1 .0) ∙ length-replicate {A = ℕ} capacity 0
+all-carried : (c : tie.After-nd) → length (c .before .before .before .before .ready .last .1 .1 .1 .1 .1 .1 .1 .1 .1 .1 .0 ++ drop (c .before .before .before .before .before .before .before .before .before .before .before .before .before .before .before .before .args .n) (replicate capacity 0)) ≡ capacity
+all-carried c = length-front (replicate capacity 0) (c .before .before .before .before .ready .last .1 .1 .1 .1 .1 .1 .1 .1 .1 .1 .0) (c .before .before .before .before .before .before .before .before .before .before .before .before .before .before .before .before .args .n) (c .before .before .before .before .ready .kept .1 .1 .1 .1 .1 .1 .1 .1 .1 .1 .0) ∙ length-replicate {A = ℕ} capacity 0
+
+-- 27 is passed
+fits-lines : (c : tie.Else1) (s : List ℕ) → length s ≡ c .before .before .before .before .before .before .before .before .before .before .before .before .before .before .before .before .before .before .args .places → places27 (c .before .before .before .before .before .before .before .before .before .before .before .before .before .before .before .before .before .before .args .literal) (frame (c .before .before .before .before .before .before .before .before .before .before .before .before .before .before .before .before .before .before)) ≤ length s
+fits-lines c s es = omega (arith, es, needed-lines (c .before .before .before .before .before .before .before .before .before .before), c .if1 .left)
 
 number-at-requires : tie.Need-number-at-requires
 number-at-requires c κs = search needs
@@ -112,31 +125,39 @@ number-at-requires c κs = search needs
 cast-j : tie.Need-cast-j
 cast-j c = search needs
 
-emitter-places-requires : tie.Need-emitter-places-requires
+places-17-requires : tie.Need-places-17-requires
 unfolding frameOf
-emitter-places-requires c κs =
+places-17-requires c κs =
     let g = c .before .before .before .before .before .before in
     let m = deep (c .before) in
     let r = g .pre .0 in
     (omega (arith, m, r .deep), omega (arith, m, r .shallow), low g)
 
+places-27-requires : tie.Need-places-27-requires
+unfolding frameOf
+places-27-requires c κs =
+    let g = c .before .before .before .before .before .before .before in
+    let m = deep (c .before .before) in
+    let r = g .pre .0 in
+    (omega (arith, m, r .deep), omega (arith, m, r .shallow), low g)
+
 array-borrow-prefix-kc : tie.Need-array-borrow-prefix-kc
-array-borrow-prefix-kc c = low (c .before .before .before .before .before .before .before .before)
+array-borrow-prefix-kc c = low (c .before .before .before .before .before .before .before .before .before)
 
 slice-aggregate-ready : tie.Need-slice-aggregate-ready
-slice-aggregate-ready c = sym (part-size _ (low (c .before .before .before .before .before .before .before .before .before)))
+slice-aggregate-ready c = sym (part-size _ (low (c .before .before .before .before .before .before .before .before .before .before)))
 
 array-borrow-prefix-flag : tie.Need-array-borrow-prefix-flag
-array-borrow-prefix-flag c = low (c .before .before .before .before .before .before .before .before .before)
+array-borrow-prefix-flag c = low (c .before .before .before .before .before .before .before .before .before .before)
 
 slice-aggregate-ready-2 : tie.Need-slice-aggregate-ready-2
-slice-aggregate-ready-2 c = sym (part-size _ (low (c .before .before .before .before .before .before .before .before .before .before)))
+slice-aggregate-ready-2 c = sym (part-size _ (low (c .before .before .before .before .before .before .before .before .before .before .before)))
 
 ready-requires : tie.Need-ready-requires
 ready-requires c κs =
-    let g = c .before .before .before .before .before .before .before .before .before .before in
+    let g = c .before .before .before .before .before .before .before .before .before .before .before in
     let a = g .args in
-    (subst (λ (n : ℕ). Ready (a .d) (a .plan .now) n (a .marks .now)) (sym (part-size (a .n) (low g))) (g .pre .0), deep (c .before .before .before .before .before), λ h. omega (arith, h), g .pre .3, refl)
+    (subst (λ (n : ℕ). Ready (a .d) (a .plan .now) n (a .marks .now)) (sym (part-size (a .n) (low g))) (g .pre .0), deep (c .before .before .before .before .before .before), λ h. omega (arith, h), g .pre .3, refl)
 
 enum-known-g : tie.Need-enum-known-g
 enum-known-g c = search needs
@@ -148,21 +169,21 @@ cast-fill-in : tie.Need-cast-fill-in
 cast-fill-in c = search needs
 
 slice-aggregate-fill-in : tie.Need-slice-aggregate-fill-in
-slice-aggregate-fill-in c = sym (all-carried (c .before .before))
+slice-aggregate-fill-in c = sym (all-carried (c .before .before .before))
 
 slice-aggregate-fill-in-2 : tie.Need-slice-aggregate-fill-in-2
-slice-aggregate-fill-in-2 c = sym (whole (c .before .before .before))
+slice-aggregate-fill-in-2 c = sym (whole (c .before .before .before .before))
 
 slice-relend-prefix-fill-in : tie.Need-slice-relend-prefix-fill-in
-slice-relend-prefix-fill-in c = long (c .before .before .before .before .before .before .before .before .before .before .before .before .before .before .before .before .before .before)
+slice-relend-prefix-fill-in c = long (c .before .before .before .before .before .before .before .before .before .before .before .before .before .before .before .before .before .before .before .before)
 
 slice-aggregate-fill-in-3 : tie.Need-slice-aggregate-fill-in-3
-slice-aggregate-fill-in-3 c = sym (part (c .before .before .before .before .before .before .before .before .before .before .before .before .before .before .before .before .before .before .before))
+slice-aggregate-fill-in-3 c = sym (part (c .before .before .before .before .before .before .before .before .before .before .before .before .before .before .before .before .before .before .before .before .before))
 
 fill-in-requires : tie.Need-fill-in-requires
 fill-in-requires c κs =
-    let k = c .before .before .before .before in
-    let g = k .before .before .before .before .before .before .before .before .before .before .before .before .before .before .before in
+    let k = c .before .before .before .before .before in
+    let g = k .before .before .before .before .before .before .before .before .before .before .before .before .before .before .before .before in
     let a = g .args in
     let all = g .pre .0 .all in
     let number = passed k (replicate (a .places) 0) (replicate (a .width) 0) (length-replicate (a .places) 0) (length-replicate (a .width) 0) .1 in (
@@ -177,28 +198,35 @@ fill-in-requires c κs =
       g .pre .2,
     )
 
+returns : tie.Need-returns
+returns c store ds room es er t =
+    let k = c .before .before in
+    let g = k .before .before .before .before .before .before .before .before .before .before .before .before .before .before .before .before in
+    let a = g .args in
+    (by-lines (a .literal) (a .d) (a .plan .now) (emitter g store) (asked g ds room) (g .pre .0 .fine) (listed g ds) (passed k store room es er .0) (omega (arith, es, needed-lines (k .before .before .before .before .before .before .before .before), c .if1 .taken)), tt)
+
 enum-known-g-2 : tie.Need-enum-known-g-2
 enum-known-g-2 c = search needs
 
 enum-told : tie.Need-enum-told
 enum-told c = search needs
 
-returns : tie.Need-returns
-returns c store ds room es er t =
-    let g = c .before .before .before .before .before .before .before .before .before .before .before .before .before .before .before .before in
+returns-2 : tie.Need-returns-2
+returns-2 c store ds room es er t =
+    let g = c .before .before .before .before .before .before .before .before .before .before .before .before .before .before .before .before .before in
     let a = g .args in (
-      by-lent (a .d) (a .plan .now) (emitter g store) (asked g ds room) (g .pre .0 .fine) (listed g ds) _ _
-          (ready-refused (frame g) (a .state .phase) (emitterPlaces (frame g)) store room (a .state .phase) _ _ (sym (c .before .g .given .1) ∙ answered (c .before .before .before .before .before) store room es er)),
+      by-lent (a .literal) (a .d) (a .plan .now) (emitter g store) (asked g ds room) (g .pre .0 .fine) (listed g ds) _ _
+          (ready-refused (frame g) (a .state .phase) (places17 (a .literal) (frame g)) store room (a .state .phase) _ _ (sym (c .before .g .given .1) ∙ answered (c .before .before .before .before .before) store room es er)),
       tt,
     )
 
 same-length : tie.Need-same-length
 same-length c = search needs
 
-returns-2 : tie.Need-returns-2
-returns-2 c store ds room es er t =
-    let g = c .before .before .before .before .before .before .before .before .before .before .before .before .before .before .before .before .before .before .before .before .before .before .before .before .before in (
-      by-given (g .args .d) (g .args .plan .now) (emitter g store) (asked g ds room) (g .pre .0 .fine) (listed g ds) (passed (c .before .before .before .before .before .before .before .before .before .before) store room es er .0) (Ground _ _)
+returns-3 : tie.Need-returns-3
+returns-3 c store ds room es er t =
+    let g = c .before .before .before .before .before .before .before .before .before .before .before .before .before .before .before .before .before .before .before .before .before .before .before .before .before .before .before in (
+      by-given (g .args .literal) (g .args .d) (g .args .plan .now) (emitter g store) (asked g ds room) (g .pre .0 .fine) (listed g ds) (passed (c .before .before .before .before .before .before .before .before .before .before .before) store room es er .0) (fits-lines (c .before .before .before .before .before .before .before .before .before) store es) (Ground _ _)
           (sym (c .before .g2 .given .1) ∙ c .before .before .before .before .before .fill-in .ensures ds t .0),
       tt,
     )
@@ -206,14 +234,14 @@ returns-2 c store ds room es er t =
 same-length-2 : tie.Need-same-length-2
 same-length-2 c = search needs
 
-returns-3 : tie.Need-returns-3
-returns-3 c store ds room es er t =
-    let g = c .before .before .before .before .before .before .before .before .before .before .before .before .before .before .before .before .before .before .before .before .before .before .before .before in
-    let k = c .before .before .before .before .before .before .before .before .before in
+returns-4 : tie.Need-returns-4
+returns-4 c store ds room es er t =
+    let g = c .before .before .before .before .before .before .before .before .before .before .before .before .before .before .before .before .before .before .before .before .before .before .before .before .before .before in
+    let k = c .before .before .before .before .before .before .before .before .before .before in
     let all = g .pre .0 .all in
     let x = c .before .before .before .before .fill-in in
     let told = c .enum-told .given .1 in (
-      ap Accepted all ∙ by-given (g .args .d) (g .args .plan .now) (emitter g store) (asked g ds room) (g .pre .0 .fine) (listed g ds) (passed k store room es er .0) Fine (sym told ∙ x .ensures ds t .0),
+      ap Accepted all ∙ by-given (g .args .literal) (g .args .d) (g .args .plan .now) (emitter g store) (asked g ds room) (g .pre .0 .fine) (listed g ds) (passed k store room es er .0) (fits-lines (c .before .before .before .before .before .before .before .before) store es) Fine (sym told ∙ x .ensures ds t .0),
       record {
         ready = g .pre .0;
         whole = k .before .before .before .before .ready .kept .1 .1 .1 .1 .1 .1 .1 .1 .1 .0 ∙ g .pre .3;
@@ -228,7 +256,8 @@ admit-step-spec =
     (tie.spec
     number-at-requires
     cast-j
-    emitter-places-requires
+    places-17-requires
+    places-27-requires
     array-borrow-prefix-kc
     slice-aggregate-ready
     array-borrow-prefix-flag
@@ -236,6 +265,7 @@ admit-step-spec =
     ready-requires
     enum-known-g
     enum-known-nd
+    returns
     cast-fill-in
     slice-aggregate-fill-in
     slice-aggregate-fill-in-2
@@ -244,8 +274,8 @@ admit-step-spec =
     fill-in-requires
     enum-known-g-2
     enum-told
-    returns
-    same-length
     returns-2
+    same-length
+    returns-3
     same-length-2
-    returns-3)
+    returns-4)

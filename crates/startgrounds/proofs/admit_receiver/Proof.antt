@@ -9,7 +9,7 @@ use Rattle.rules.specs.Fits.{capacity}
 use Rattle.rules.specs.Plan.{planOf}
 use Rattle.rules.specs.Frame.{frameOf}
 use Rattle.rules.specs.Store.{receiverPlaces}
-use Rattle.startgrounds.specs.Admit.{phaseVerdict}
+use Rattle.startgrounds.specs.Admit.{phaseVerdict, none}
 use Rattle.places.proofs.Sizes.{receiver-places-are}
 use Rattle.startgrounds.proofs.Starts.{few, receiver-small, StartInOrder, in-order, by-earlier, by-store, by-none, receiver-refused, receiver-counted, depth-small}
 use Rattle.startgrounds.proofs.admit_receiver.Statement.{statement}
@@ -66,7 +66,7 @@ returns : tie.Need-returns
 returns c =
     let k = c .before .before .before .before in
     let a = start k .args in
-    λ s e. receiver-refused (a .d) (a .plan .now) (a .phase) s _ _ (by-store receiverPlaces (a .d) (a .plan .now) (a .phase) s _ (accepted k) (omega (arith, e, need (c .before), c .if1 .taken)))
+    λ s e. receiver-refused (a .d) (a .plan .now) (a .phase) s _ _ (by-store receiverPlaces none (a .d) (a .plan .now) (a .phase) s _ (accepted k) (omega (arith, e, need (c .before), c .if1 .taken)))
 
 cast-number : tie.Need-cast-number
 cast-number c =
@@ -76,13 +76,13 @@ cast-number c =
 returns-2 : tie.Need-returns-2
 returns-2 c =
     let a = c .before .before .before .before .before .before .args in
-    λ s e. receiver-refused (a .d) (a .plan .now) (a .phase) s _ _ (by-earlier receiverPlaces (a .d) (a .plan .now) (a .phase) s _ _ (sym (c .before .g .given .1) ∙ c .before .before .before .admit .ensures .0))
+    λ s e. receiver-refused (a .d) (a .plan .now) (a .phase) s _ _ (by-earlier receiverPlaces none (a .d) (a .plan .now) (a .phase) s _ _ (sym (c .before .g .given .1) ∙ c .before .before .before .admit .ensures .0))
 
 returns-3 : tie.Need-returns-3
 returns-3 c =
     let k = c .before .before .before .before in
     let a = start k .args in
-    λ s e. receiver-counted (a .d) (a .plan .now) (a .phase) s _ (need (c .before)) (by-none receiverPlaces (a .d) (a .plan .now) (a .phase) s _ (accepted k) (omega (arith, e, need (c .before), c .if1 .left)))
+    λ s e. receiver-counted (a .d) (a .plan .now) (a .phase) s _ (need (c .before)) (by-none receiverPlaces none (a .d) (a .plan .now) (a .phase) s _ (accepted k) (omega (arith, e, need (c .before), c .if1 .left)) (omega arith))
 
 pub admit-receiver-spec : {M : Type 1} → statement M
 admit-receiver-spec =

@@ -1,0 +1,4 @@
+pub mod Cells
+pub mod Rounds
+pub mod Rings
+pub mod Symbols
