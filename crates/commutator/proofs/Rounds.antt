@@ -11,11 +11,12 @@ use lib.ListN.{length, getD, set, length-set}
 use lib.Seq.{getD-set-same, getD-set-other}
 use borrow.Author.Tests.{lt-ltb, le-ltb, eq-eqb, ne-eqb}
 use Rattle.counting.specs.Search.{pick, sum}
-use Rattle.figure.specs.Figure.{lineBegins}
-use Rattle.figure.proofs.Sizes.{begins-suc, begins-grow}
-use Rattle.figure.proofs.Turns.{line-of, turn-of}
-use Rattle.commutator.specs.Round.{goesIn, withSent, comesOut, Gone, Goes}
-use Rattle.commutator.proofs.Cells.{in-own, in-dummy, sent-own, sent-dummy, length-sent, same-cell, same-place}
+use Rattle.figure.specs.Figure.{lineBegins, cellIn}
+use Rattle.figure.proofs.Sizes.{begins-suc, begins-grow, same-place}
+use Rattle.figure.proofs.Turns.{line-of, turn-of, same-cell}
+use Rattle.figure.proofs.Lines.{cell-own, cell-dummy}
+use Rattle.commutator.specs.Round.{withSent, comesOut, Gone, Goes}
+use Rattle.commutator.proofs.Cells.{sent-own, sent-dummy, length-sent}
 
 -- ---- what comes out
 
@@ -83,28 +84,28 @@ module _ (J m : ℕ) (s x : List ℕ) where
     inside = omega (arith, mul-le-mul-right J (let one : 1 ≤ r = omega arith in one))
 
     -- the cell that goes in
-    goes-in : goesIn y (q * m + r) ≡ goesIn x (q * m + r)
+    goes-in : cellIn (length y) y (q * m + r) ≡ cellIn (length x) x (q * m + r)
     goes-in =
         let p : ℕ = q * m + r in
         by-cases (decLt p (length x))
-        (λ c. in-own y p (omega (arith, go .cells)) ∙ go .rest p c (omega arith) ∙ sym (in-own x p c))
-        (λ c. in-dummy y p (omega (arith, go .cells)) ∙ sym (in-dummy x p (omega arith)))
+        (λ c. cell-own (length y) y p (omega (arith, go .cells)) ∙ go .rest p c (omega arith) ∙ sym (cell-own (length x) x p c))
+        (λ c. cell-dummy (length y) y p (omega (arith, go .cells)) ∙ sym (cell-dummy (length x) x p (omega arith)))
 
     -- the cell that comes out
     comes-out : getD t (lineBegins J r + q) 0 ≡ comesOut J m s x (q * m + r)
     comes-out = go .lines r q hr inside ∙ not-taken (q * m + r) (q * m + r) _ _ (omega arith) ∙ sym (out-oldest J m s x q r pos hr)
 
     stored : (r′ i : ℕ) → r′ < m → i < r′ * J
-        → getD (set t (lineBegins J r + q) (goesIn y (q * m + r))) (lineBegins J r′ + i) 0 ≡ pick (ltb (i * m + r′) (q * m + r + 1)) (goesIn x (i * m + r′)) (getD s (lineBegins J r′ + i) 0)
+        → getD (set t (lineBegins J r + q) (cellIn (length y) y (q * m + r))) (lineBegins J r′ + i) 0 ≡ pick (ltb (i * m + r′) (q * m + r + 1)) (cellIn (length x) x (i * m + r′)) (getD s (lineBegins J r′ + i) 0)
     stored r′ i hr′ hi =
         by-cases (ℕ-discrete (i * m + r′) (q * m + r))
         (λ z.
         let w : (i ≡ q) × (r′ ≡ r) = same-cell m i r′ q r hr′ hr z in
         rw (w .0, w .1)
-        (getD-set-same t (lineBegins J r + q) (goesIn y (q * m + r)) 0 (omega (arith, begins-grow J r m hr, inside))
+        (getD-set-same t (lineBegins J r + q) (cellIn (length y) y (q * m + r)) 0 (omega (arith, begins-grow J r m hr, inside))
         ∙ goes-in ∙ sym (taken (q * m + r) (q * m + r + 1) _ _ (omega arith))))
         (λ z.
-        getD-set-other t (lineBegins J r + q) (lineBegins J r′ + i) (goesIn y (q * m + r)) 0
+        getD-set-other t (lineBegins J r + q) (lineBegins J r′ + i) (cellIn (length y) y (q * m + r)) 0
         (λ e.
         let w : (r′ ≡ r) × (i ≡ q) = same-place J r′ i r q hi inside e in
         z (λ k. w .1 k * m + w .0 k))
@@ -128,7 +129,7 @@ module _ (J m : ℕ) (s x : List ℕ) where
         rw z (ap (λ (w : List ℕ). getD w p 0) (sent-own y p v own) ∙ getD-set-same y p v 0 own ∙ comes-out))
         (λ z. sent-other k z ∙ go .sent k h (omega arith))
 
-    pub gone-one : Gone J m s x (q * m + r + 1) (set t (lineBegins J r + q) (goesIn y (q * m + r))) (withSent y (q * m + r) (getD t (lineBegins J r + q) 0))
+    pub gone-one : Gone J m s x (q * m + r + 1) (set t (lineBegins J r + q) (cellIn (length y) y (q * m + r))) (withSent y (q * m + r) (getD t (lineBegins J r + q) 0))
     gone-one = record {
       places = length-set t _ _ ∙ go .places;
       cells = length-sent y _ _ ∙ go .cells;
@@ -171,7 +172,7 @@ module _ (J m q : ℕ) (t y : List ℕ) where
         let grow : lineBegins J r + r * J ≤ lineBegins J m = begins-grow J r m hr in
         (omega (arith, go .place, go .places), omega (arith, go .place, go .long))
 
-    pub turning-next : r < m → q < J → lineBegins J m ≤ length t → (t″ y″ : List ℕ) → t″ ≡ set t′ at (goesIn y′ (q * m + r)) → y″ ≡ withSent y′ (q * m + r) (getD t′ at 0)
+    pub turning-next : r < m → q < J → lineBegins J m ≤ length t → (t″ y″ : List ℕ) → t″ ≡ set t′ at (cellIn (length y′) y′ (q * m + r)) → y″ ≡ withSent y′ (q * m + r) (getD t′ at 0)
         → Turning J m q t y t″ y″ (r + 1) (at + len) (len + J)
     turning-next hr hq fits t″ y″ et ey =
         let one : r + 1 ≡ suc r = omega arith in

@@ -11,21 +11,14 @@ use lib.ListN.{length, getD}
 use lib.Seq.{ext-getD}
 use Rattle.counting.proofs.Lists.{is-tabulate}
 use Rattle.figure.specs.Figure.{ceiling, lineBegins, cellIn, outAt, figureStore, figureCells}
-use Rattle.figure.proofs.Sizes.{enough}
+use Rattle.places.proofs.Kept.{Within}
+use Rattle.figure.proofs.Sizes.{enough, in-line, begins-at}
 use Rattle.figure.proofs.Turns.{turn-below, below-times}
-use Rattle.figure.proofs.Lines.{cell-own, cell-dummy, through, through-old, through-new, out-is, after-symbol, past-symbol, length-symbol}
-use Rattle.commutator.specs.Round.{goesIn, comesOut, Gone}
+use Rattle.figure.proofs.Lines.{cell-own, through, through-old, through-new, out-is, after-symbol, past-symbol, length-symbol}
+use Rattle.commutator.specs.Round.{comesOut, Gone}
 use Rattle.commutator.specs.Turned.{LinesTurned}
-use Rattle.commutator.proofs.Cells.{in-own, in-dummy, Within, within}
 use Rattle.commutator.proofs.Rounds.{out-straight, out-oldest, taken, not-taken}
 use Rattle.commutator.proofs.Rings.{from-ahead, from-first}
-
--- the cell that goes in is that of the figure
-in-figure : (m : ℕ) (x : List ℕ) (p : ℕ) → goesIn x p ≡ cellIn m (length x) x p
-in-figure m x p =
-    by-cases (decLt p (length x))
-    (λ c. in-own x p c ∙ sym (cell-own m (length x) x p c))
-    (λ c. in-dummy x p (omega arith) ∙ sym (cell-dummy m (length x) x p (omega arith)))
 
 module _ (m : ℕ) (pos : 0 < m) (s x t y t′ : List ℕ) (long : lineBegins (ceiling (length x) m) m ≤ length s) (gone : Gone (ceiling (length x) m) m s x (ceiling (length x) m * m) t y) (turned : LinesTurned (ceiling (length x) m) m t t′) where
   abbrev J : ℕ
@@ -34,8 +27,8 @@ module _ (m : ℕ) (pos : 0 < m) (s x t y t′ : List ℕ) (long : lineBegins (c
   -- ---- the store
 
   -- place i of line r: J places on stood a cell that was there before, or, past the line's end, a cell that went in
-  in-line : (r i : ℕ) → r < m → i < r * J → getD t′ (lineBegins J r + i) 0 ≡ getD (figureStore m (length x) s x) (lineBegins J r + i) 0
-  in-line r i hr hi =
+  line-stored : (r i : ℕ) → r < m → i < r * J → getD t′ (lineBegins J r + i) 0 ≡ getD (figureStore m (length x) s x) (lineBegins J r + i) 0
+  line-stored r i hr hi =
       turned .turned r i hr hi
       ∙ by-cases (decLt (i + J) (r * J))
       (λ c.
@@ -50,7 +43,7 @@ module _ (m : ℕ) (pos : 0 < m) (s x t y t′ : List ℕ) (long : lineBegins (c
       let e : i + J ≡ r * J + k = omega arith in
       ap (λ (k : ℕ). getD t (lineBegins J r + k) 0) (from-first (r * J) J i (omega arith))
       ∙ gone .lines r k hr one ∙ taken (k * m + r) (J * m) _ _ (below-times k r m J low hr)
-      ∙ in-figure m x (k * m + r) ∙ sym (through-new m (length x) pos s x long r (i + J) k e))
+      ∙ sym (through-new m (length x) pos s x long r (i + J) k e))
       ∙ ap (through m (length x) pos s x long r) (let e : i + J ≡ J + i = omega arith in e)
       ∙ sym (after-symbol m (length x) pos s x long r i hr hi)
 
@@ -62,7 +55,7 @@ module _ (m : ℕ) (pos : 0 < m) (s x t y t′ : List ℕ) (long : lineBegins (c
       ext-getD 0 t′ (figureStore m (length x) s x) (turned .places ∙ gone .places ∙ sym (length-symbol m (length x) pos s x long))
       (λ k h.
       by-cases (decLt k (lineBegins J m))
-      (λ c. let w : Within J m k = within J m k c in rw (w .here) (in-line (w .line) (w .place) (w .below) (w .inside)))
+      (λ c. let w : Within (λ r. r * J) m k = in-line J m k c in rw (begins-at J m k w) at (line-stored (w .cell) (w .nth) (w .below) (w .inside)))
       (λ c. past-lines k (omega arith)))
 
   -- ---- the cells
@@ -75,7 +68,7 @@ module _ (m : ℕ) (pos : 0 < m) (s x t y t′ : List ℕ) (long : lineBegins (c
       (λ z.
       let e : p / m ≡ p % m * J + p / m = omega (arith, ap (λ (r : ℕ). r * J) z) in
       out-straight J m s x p z
-      ∙ sym (out-is m (length x) pos s x long p below ∙ through-new m (length x) pos s x long (p % m) (p / m) (p / m) e ∙ ap (cellIn m (length x) x) cell ∙ cell-own m (length x) x p h))
+      ∙ sym (out-is m (length x) pos s x long p below ∙ through-new m (length x) pos s x long (p % m) (p / m) (p / m) e ∙ ap (cellIn (length x) x) cell ∙ cell-own (length x) x p h))
       (λ z.
       let old : p / m < p % m * J = omega (arith, turn-below m J p pos below, mul-le-mul-right J (let l : 1 ≤ p % m = omega arith in l)) in
       ap (comesOut J m s x) (sym cell) ∙ out-oldest J m s x (p / m) (p % m) (omega arith) (mod-lt p pos)

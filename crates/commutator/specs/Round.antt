@@ -6,12 +6,7 @@ use mathlib.Core.List.{List}
 use lib.Dec.{ltb, eqb}
 use lib.ListN.{length, getD, set}
 use Rattle.counting.specs.Search.{pick}
-use Rattle.rules.specs.Frame.{filler}
-use Rattle.figure.specs.Figure.{lineBegins}
-
--- cell p of the cells x goes in; past their end it is a filler dummy
-unfoldable pub goesIn : List ℕ → ℕ → ℕ
-goesIn x p = pick (ltb p (length x)) (getD x p 0) filler
+use Rattle.figure.specs.Figure.{lineBegins, cellIn}
 
 -- the cells x with v, which came out for cell p, in its place; what comes out for a dummy is thrown away
 unfoldable pub withSent : List ℕ → ℕ → ℕ → List ℕ
@@ -27,7 +22,7 @@ pub record Gone (J m : ℕ) (s x : List ℕ) (p : ℕ) (t y : List ℕ) : Type 0
   pub places : length t ≡ length s
   pub cells : length y ≡ length x
   pub lines : (r i : ℕ) → r < m → i < r * J
-      → getD t (lineBegins J r + i) 0 ≡ pick (ltb (i * m + r) p) (goesIn x (i * m + r)) (getD s (lineBegins J r + i) 0)
+      → getD t (lineBegins J r + i) 0 ≡ pick (ltb (i * m + r) p) (cellIn (length x) x (i * m + r)) (getD s (lineBegins J r + i) 0)
   pub past : (k : ℕ) → lineBegins J m ≤ k → getD t k 0 ≡ getD s k 0
   pub sent : (q : ℕ) → q < length x → q < p → getD y q 0 ≡ comesOut J m s x q
   pub rest : (q : ℕ) → q < length x → p ≤ q → getD y q 0 ≡ getD x q 0

@@ -2,13 +2,14 @@
 // lines side by side in one store, line r holding r * J cells, the oldest first, and a commutator that goes round them. For each place of the
 // commutator one cell goes in and one comes out. The definition shifts a line at every cell. The code does not: within a symbol a line is a ring in
 // its own part of the store, where in turn q the oldest cell stands at place q and the cell that goes in takes its place; after the symbol the
-// line is turned by J places, so that the oldest stands first. The code is proved equal to the definition, and its time is linear in the store.
+// line is turned by J places, so that the oldest stands first. The code is proved equal to the definition, and its time is linear in the store and
+// the symbol.
 ghost use mathlib.Core.Path.{_≡_};
 ghost use Prim.Native.Nat.{_+_, _*_, _%_, _≤_, _<_};
 ghost use lib.ListN.{length, getD, set};
 ghost use Rattle.rules.specs.Fits.{capacity};
-ghost use Rattle.figure.specs.Figure.{ceiling, lineBegins, figureStore, figureCells};
-ghost use Rattle.commutator.specs.Round.{goesIn, withSent, Gone, Goes};
+ghost use Rattle.figure.specs.Figure.{ceiling, lineBegins, cellIn, figureStore, figureCells};
+ghost use Rattle.commutator.specs.Round.{withSent, Goes};
 ghost use Rattle.commutator.specs.Turned.{LineTurned, LinesTurned};
 
 // The mark of filler.
@@ -16,7 +17,7 @@ const FILLER: u16 = 0x8001;
 
 // Cell p goes in: after the symbol's cells come filler dummies.
 fn cell_in(cells: &[u16], p: usize) -> u16
-    ensures { λ r. ⌜ r ≡ goesIn (now (cells .entry)) p ⌝ }
+    ensures { λ r. ⌜ r ≡ cellIn (length (now (cells .entry))) (now (cells .entry)) p ⌝ }
 {
     if p < cells.len() { cells[p] } else { FILLER }
 }
@@ -34,7 +35,7 @@ fn cell_out(cells: &mut [u16], p: usize, v: u16)
 // One place of the commutator: cell p goes in, and the oldest cell of the line, at place `at` of the store, comes out.
 fn exchange(at: usize, p: usize, store: &mut [u16], cells: &mut [u16])
     requires { ⌜ at < length (now store) ⌝ }
-    ensures stored { λ _. ⌜ now (store .exit) ≡ set (now (store .entry)) at (goesIn (now (cells .entry)) p) ⌝ }
+    ensures stored { λ _. ⌜ now (store .exit) ≡ set (now (store .entry)) at (cellIn (length (now (cells .entry))) (now (cells .entry)) p) ⌝ }
     ensures sent { λ _. ⌜ now (cells .exit) ≡ withSent (now (cells .entry)) p (getD (now (store .entry)) at 0) ⌝ }
 {
     let oldest = store[at];
@@ -57,18 +58,6 @@ fn turn(m: usize, j: usize, q: usize, store: &mut [u16], cells: &mut [u16])
         at = at + len;
         len = len + j;
         r += 1;
-    }
-}
-
-// The j turns of a symbol.
-fn go_round(m: usize, j: usize, store: &mut [u16], cells: &mut [u16])
-    requires { ⌜ (0 < m) × (m ≤ capacity) × (j ≤ capacity) × (lineBegins j m ≤ length (now store)) ⌝ }
-    ensures { λ _. ⌜ Gone j m (now (store .entry)) (now (cells .entry)) (j * m) (now (store .exit)) (now (cells .exit)) ⌝ }
-{
-    let mut q = 0;
-    while q < j {
-        turn(m, j, q, store, cells);
-        q += 1;
     }
 }
 
@@ -112,13 +101,18 @@ fn turn_lines(m: usize, j: usize, store: &mut [u16])
     }
 }
 
-// A symbol goes through the lines: its cells go in, and the delayed cells come out in their place.
+// A symbol goes through the lines, in j turns of the commutator: its cells go in, and the delayed cells come out in their place. Then the lines are
+// turned.
 pub fn pass(m: usize, store: &mut [u16], cells: &mut [u16])
     requires { ⌜ (0 < m) × (m ≤ capacity) × (length (now cells) ≤ capacity) × (lineBegins (ceiling (length (now cells)) m) m ≤ length (now store)) ⌝ }
     ensures stored { λ _. ⌜ now (store .exit) ≡ figureStore m (length (now (cells .entry))) (now (store .entry)) (now (cells .entry)) ⌝ }
     ensures sent { λ _. ⌜ now (cells .exit) ≡ figureCells m (length (now (cells .entry))) (now (store .entry)) (now (cells .entry)) ⌝ }
 {
     let j = figure::ceiling(cells.len(), m);
-    go_round(m, j, store, cells);
+    let mut q = 0;
+    while q < j {
+        turn(m, j, q, store, cells);
+        q += 1;
+    }
     turn_lines(m, j, store);
 }

@@ -1,5 +1,5 @@
 -- The pass over the places, cell by cell, for any delays. Assumes nothing.
-use Prim.Native.Nat.{ℕ, zero, suc, _+_, _-_, _≤_, _<_}
+use Prim.Native.Nat.{ℕ, suc, _+_, _-_, _≤_, _<_}
 use mathlib.Core.Path.{_≡_, refl, sym, ap, _∙_}
 use mathlib.Core.Logic.{by-cases}
 use mathlib.Core.List.{List}
@@ -10,27 +10,8 @@ use lib.ListN.{length, getD, set, length-set}
 use lib.Seq.{getD-set-same, getD-set-other}
 use Rattle.counting.specs.Search.{sum}
 use Rattle.rules.specs.Places.{placesBefore, oldest, moved}
-use Rattle.places.proofs.Kept.{start-suc, place-old, place-new, moved-at, oldest-at}
+use Rattle.places.proofs.Kept.{start-suc, Within, within, place-old, place-new, moved-at, oldest-at}
 use Rattle.exchange.specs.Exchange.{Exchanged}
-
--- ---- where a place stands
-
--- place k is one of the places of a cell below n
-pub record Within (d : ℕ → ℕ) (n k : ℕ) : Type 0 where
-  pub cell : ℕ
-  pub nth : ℕ
-  pub below : cell < n
-  pub inside : nth < d cell
-  pub is : k ≡ placesBefore d cell + nth
-
-pub within : (d : ℕ → ℕ) (n k : ℕ) → k < placesBefore d n → Within d n k
-within d zero k h = absurd (let e : placesBefore d 0 ≡ 0 = unfold placesBefore sum in refl in omega arith)
-within d (suc n) k h =
-    by-cases (decLt k (placesBefore d n))
-    (λ c.
-    let w : Within d n k = within d n k c in
-    record { cell = w .cell; nth = w .nth; below = omega (arith, w .below); inside = w .inside; is = w .is })
-    (λ c. record { cell = n; nth = k - placesBefore d n; below = omega arith; inside = omega (arith, start-suc d n); is = omega arith })
 
 -- ---- the cells one by one
 

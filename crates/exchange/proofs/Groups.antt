@@ -10,9 +10,9 @@ use lib.ListN.{length, getD, set, length-set}
 use lib.Seq.{getD-set-other}
 use Rattle.rules.specs.Fits.{capacity}
 use Rattle.rules.specs.Places.{placesBefore}
-use Rattle.places.proofs.Kept.{start-suc, start-grow}
+use Rattle.places.proofs.Kept.{start-suc, start-grow, Within, within}
 use Rattle.exchange.specs.Exchange.{endDelay, firstCell, firstDelay, nextDelay, Passes, At}
-use Rattle.exchange.proofs.Exchanges.{Within, within, exchanged-one}
+use Rattle.exchange.proofs.Exchanges.{exchanged-one}
 
 -- ---- the delays of a group, which begins with cell b
 

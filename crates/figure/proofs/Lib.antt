@@ -1,4 +1,5 @@
 pub mod Sizes
 pub mod Turns
 pub mod Lines
+pub mod Fresh
 pub mod Needs

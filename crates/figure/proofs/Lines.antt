@@ -7,7 +7,7 @@ use native.Mathlib.Nat.{mod-lt, div-add-mod', mul-le-mul-right, min-eq-left, zer
 use native.Mathlib.Decide.{decLt, ℕ-discrete}
 use native.Mathlib.Omega.{arith}
 use lib.Dec.{ltb}
-use lib.ListN.{length, getD, take, drop, length-append, length-take, length-drop, List·getD-append}
+use lib.ListN.{length, getD, drop, length-append, length-take, length-drop, List·getD-append}
 use lib.Seq.{getD-take, getD-drop, getD-at, length-sets}
 use borrow.Author.Tests.{lt-ltb, le-ltb, eq-eqb, ne-eqb}
 use Rattle.counting.specs.Search.{bit, pick, sum, count}
@@ -69,13 +69,13 @@ length-after J s r c = length-sets s (lineBegins J r) (drop 1 (lineAnd J s r c))
 
 -- ---- what goes in
 
-pub cell-own : (m n : ℕ) (x : List ℕ) (p : ℕ) → p < n → cellIn m n x p ≡ getD x p 0
+pub cell-own : (n : ℕ) (x : List ℕ) (p : ℕ) → p < n → cellIn n x p ≡ getD x p 0
 unfolding cellIn
-cell-own m n x p h = rw (lt-ltb p n h) refl
+cell-own n x p h = rw (lt-ltb p n h) refl
 
-pub cell-dummy : (m n : ℕ) (x : List ℕ) (p : ℕ) → n ≤ p → cellIn m n x p ≡ filler
+pub cell-dummy : (n : ℕ) (x : List ℕ) (p : ℕ) → n ≤ p → cellIn n x p ≡ filler
 unfolding cellIn
-cell-dummy m n x p h = rw (le-ltb p n h) refl
+cell-dummy n x p h = rw (le-ltb p n h) refl
 
 -- ---- one symbol
 
@@ -85,13 +85,13 @@ module _ (m n : ℕ) (pos : 0 < m) (s x : List ℕ) (long : lineBegins (ceiling 
 
   -- what goes through line r: first what it held, then the cells that go in
   unfoldable pub through : ℕ → ℕ → ℕ
-  through r q = pick (ltb q (r * ceiling n m)) (getD s (lineBegins (ceiling n m) r + q) 0) (cellIn m n x ((q - r * ceiling n m) * m + r))
+  through r q = pick (ltb q (r * ceiling n m)) (getD s (lineBegins (ceiling n m) r + q) 0) (cellIn n x ((q - r * ceiling n m) * m + r))
 
   pub through-old : (r q : ℕ) → q < r * J → through r q ≡ getD s (lineBegins J r + q) 0
   unfolding through
   through-old r q h = rw (lt-ltb q (r * ceiling n m) h) refl
 
-  pub through-new : (r q k : ℕ) → q ≡ r * J + k → through r q ≡ cellIn m n x (k * m + r)
+  pub through-new : (r q k : ℕ) → q ≡ r * J + k → through r q ≡ cellIn n x (k * m + r)
   unfolding through
   through-new r q k e =
       let z : q - r * ceiling n m ≡ k = omega arith in
@@ -100,20 +100,20 @@ module _ (m n : ℕ) (pos : 0 < m) (s x : List ℕ) (long : lineBegins (ceiling 
   length-at : (p : ℕ) → length (storeAt m n s x p) ≡ length s
   unfolding storeAt
   length-at zero = refl
-  length-at (suc p) = length-after (ceiling n m) (storeAt m n s x p) (commutator m p) (cellIn m n x p) ∙ length-at p
+  length-at (suc p) = length-after (ceiling n m) (storeAt m n s x p) (commutator m p) (cellIn n x p) ∙ length-at p
 
   -- the line of cell p, with that cell behind it
   moved-here : (p : ℕ) → ((q : ℕ) → q < p % m * J → getD (storeAt m n s x p) (lineBegins J (p % m) + q) 0 ≡ through (p % m) (onLine m (p % m) p + q))
-      → (q : ℕ) → q < p % m * J → getD (lineAnd J (storeAt m n s x p) (p % m) (cellIn m n x p)) (q + 1) 0 ≡ through (p % m) (onLine m (p % m) p + (q + 1))
+      → (q : ℕ) → q < p % m * J → getD (lineAnd J (storeAt m n s x p) (p % m) (cellIn n x p)) (q + 1) 0 ≡ through (p % m) (onLine m (p % m) p + (q + 1))
   moved-here p inv q h =
       let t : List ℕ = storeAt m n s x p in
       let fits : lineBegins (ceiling n m) m ≤ length t = rw length-at long in
       by-cases (decLt (q + 1) (p % m * ceiling n m))
-      (λ c. line-old (ceiling n m) m t fits (p % m) (cellIn m n x p) (mod-lt p pos) (q + 1) c ∙ inv (q + 1) c)
+      (λ c. line-old (ceiling n m) m t fits (p % m) (cellIn n x p) (mod-lt p pos) (q + 1) c ∙ inv (q + 1) c)
       (λ c.
       let e : onLine m (p % m) p + (q + 1) ≡ p % m * ceiling n m + p / m = omega (arith, on-here m p pos) in
-      line-new (ceiling n m) m t fits (p % m) (cellIn m n x p) (mod-lt p pos) (q + 1) (omega arith)
-      ∙ sym (through-new (p % m) (onLine m (p % m) p + (q + 1)) (p / m) e ∙ ap (cellIn m n x) (div-add-mod' p m)))
+      line-new (ceiling n m) m t fits (p % m) (cellIn n x p) (mod-lt p pos) (q + 1) (omega arith)
+      ∙ sym (through-new (p % m) (onLine m (p % m) p + (q + 1)) (p / m) e ∙ ap (cellIn n x) (div-add-mod' p m)))
 
   -- place q of line r after p cells: so many went in and out
   in-lines : (p r q : ℕ) → r < m → q < r * J → getD (storeAt m n s x p) (lineBegins J r + q) 0 ≡ through r (onLine m r p + q)
@@ -129,18 +129,18 @@ module _ (m n : ℕ) (pos : 0 < m) (s x : List ℕ) (long : lineBegins (ceiling 
       let hq′ : q < p % m * ceiling n m = rw e at hq in
       let on : onLine m (p % m) (suc p) + q ≡ onLine m (p % m) p + (q + 1) = omega (arith, on-next m (p % m) p, ap bit (eq-eqb (p % m) (p % m) refl)) in
       rw (e, on)
-      (after-here (ceiling n m) m t fits (p % m) (cellIn m n x p) (mod-lt p pos) q hq′
+      (after-here (ceiling n m) m t fits (p % m) (cellIn n x p) (mod-lt p pos) q hq′
       ∙ moved-here p (λ i h. in-lines p (p % m) i (mod-lt p pos) h) q hq′))
       (λ e.
       let on : onLine m r (suc p) + q ≡ onLine m r p + q = omega (arith, on-next m r p, ap bit (ne-eqb (p % m) r (λ z. e (sym z)))) in
-      rw on (after-other (ceiling n m) m t fits (p % m) (cellIn m n x p) (mod-lt p pos) r q e hq ∙ in-lines p r q hr hq))
+      rw on (after-other (ceiling n m) m t fits (p % m) (cellIn n x p) (mod-lt p pos) r q e hq ∙ in-lines p r q hr hq))
 
   past-lines : (p k : ℕ) → lineBegins J m ≤ k → getD (storeAt m n s x p) k 0 ≡ getD s k 0
   unfolding storeAt commutator
   past-lines zero k h = refl
   past-lines (suc p) k h =
       let t : List ℕ = storeAt m n s x p in
-      after-past (ceiling n m) m t (rw length-at long) (p % m) (cellIn m n x p) (mod-lt p pos) k h ∙ past-lines p k h
+      after-past (ceiling n m) m t (rw length-at long) (p % m) (cellIn n x p) (mod-lt p pos) k h ∙ past-lines p k h
 
   -- what comes out as cell p goes in
   pub out-is : (p : ℕ) → p < J * m → outAt m n s x p ≡ through (p % m) (p / m)
@@ -151,12 +151,12 @@ module _ (m n : ℕ) (pos : 0 < m) (s x : List ℕ) (long : lineBegins (ceiling 
       by-cases (ℕ-discrete (p % m) 0)
       (λ z.
       let e : 0 ≡ p % m * ceiling n m = sym (ap (λ (r : ℕ). r * ceiling n m) z ∙ zero-mul (ceiling n m)) in
-      line-new (ceiling n m) m t fits (p % m) (cellIn m n x p) (mod-lt p pos) 0 e
-      ∙ sym (through-new (p % m) (p / m) (p / m) (omega arith) ∙ ap (cellIn m n x) (div-add-mod' p m)))
+      line-new (ceiling n m) m t fits (p % m) (cellIn n x p) (mod-lt p pos) 0 e
+      ∙ sym (through-new (p % m) (p / m) (p / m) (omega arith) ∙ ap (cellIn n x) (div-add-mod' p m)))
       (λ z.
       let l : 0 < p % m * ceiling n m = omega (arith, mul-le-mul-right (ceiling n m) (let one : 1 ≤ p % m = omega arith in one), turn-below m (ceiling n m) p pos h) in
       let on : onLine m (p % m) p + 0 ≡ p / m = omega (arith, on-here m p pos) in
-      line-old (ceiling n m) m t fits (p % m) (cellIn m n x p) (mod-lt p pos) 0 l ∙ in-lines p (p % m) 0 (mod-lt p pos) l ∙ ap (through (p % m)) on)
+      line-old (ceiling n m) m t fits (p % m) (cellIn n x p) (mod-lt p pos) 0 l ∙ in-lines p (p % m) 0 (mod-lt p pos) l ∙ ap (through (p % m)) on)
 
   -- the store after the symbol: in each line J cells on
   pub after-symbol : (r q : ℕ) → r < m → q < r * J → getD (figureStore m n s x) (lineBegins J r + q) 0 ≡ through r (J + q)

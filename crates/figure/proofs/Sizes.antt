@@ -1,5 +1,5 @@
 -- How many cells the delay lines have: in all J * M * (M - 1) / 2. Assumes nothing.
-use Prim.Native.Nat.{ℕ, zero, suc, _+_, _-_, _*_, _/_, _%_, _≤_, _<_}
+use Prim.Native.Nat.{ℕ, zero, suc, _+_, _-_, _*_, _/_, _≤_, _<_}
 use mathlib.Core.Path.{_≡_, refl, sym, ap, _∙_}
 use mathlib.Core.Logic.{by-cases}
 use native.Mathlib.Nat.{mod-lt, div-add-mod', mul-le-mul-right, mul-comm, mul-assoc, mul-suc, mul-div-left}
@@ -10,7 +10,8 @@ use Rattle.counting.proofs.Sums.{sum-le, sum-const}
 use Rattle.counting.proofs.Orders.{sum-mul}
 use Rattle.rules.specs.Fits.{capacity}
 use Rattle.rules.specs.Frame.{Frame, cells}
-use Rattle.places.proofs.Kept.{sum-grow}
+use Rattle.rules.specs.Places.{placesBefore}
+use Rattle.places.proofs.Kept.{sum-grow, Within, within}
 use Rattle.places.proofs.Sizes as sizes
 use Rattle.figure.specs.Figure.{ceiling, lineBegins}
 use Rattle.figure.specs.Steps.{literalPlaces}
@@ -43,6 +44,25 @@ begins-suc J r = refl
 pub begins-grow : (J r k : ℕ) → r < k → lineBegins J r + r * J ≤ lineBegins J k
 unfolding lineBegins
 begins-grow J r k h = sum-grow (λ q. q * J) r k h
+
+-- two places in the lines that are one are one place of one line
+pub same-place : (J r i r′ i′ : ℕ) → i < r * J → i′ < r′ * J → lineBegins J r + i ≡ lineBegins J r′ + i′ → (r ≡ r′) × (i ≡ i′)
+same-place J r i r′ i′ h h′ e =
+    by-cases (decLt r r′)
+    (λ c. absurd (omega (arith, begins-grow J r r′ c)))
+    (λ c.
+    by-cases (decLt r′ r)
+    (λ d. absurd (omega (arith, begins-grow J r′ r d)))
+    (λ d. let z : r ≡ r′ = omega arith in (z, omega (arith, ap (lineBegins J) z))))
+
+-- and each place in the lines is in one
+pub in-line : (J m k : ℕ) → k < lineBegins J m → Within (λ r. r * J) m k
+unfolding lineBegins placesBefore
+in-line J m k h = within (λ r. r * J) m k h
+
+pub begins-at : (J m k : ℕ) (w : Within (λ r. r * J) m k) → lineBegins J (w .cell) + w .nth ≡ k
+unfolding lineBegins placesBefore
+begins-at J m k w = sym (w .is)
 
 begins-are : (J m : ℕ) → lineBegins J m ≡ sum (λ i. i) m * J
 unfolding lineBegins

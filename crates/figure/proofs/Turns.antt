@@ -58,3 +58,9 @@ line-of m q r h = digits-mod q h
 
 pub turn-of : (m q r : ℕ) → r < m → (q * m + r) / m ≡ q
 turn-of m q r h = digits-div q h
+
+pub same-cell : (m q r q′ r′ : ℕ) → r < m → r′ < m → q * m + r ≡ q′ * m + r′ → (q ≡ q′) × (r ≡ r′)
+same-cell m q r q′ r′ h h′ e = (
+  sym (turn-of m q r h) ∙ rw e (turn-of m q′ r′ h′),
+  sym (line-of m q r h) ∙ rw e (line-of m q′ r′ h′),
+)

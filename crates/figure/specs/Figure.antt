@@ -43,19 +43,19 @@ storeAfter J s r c = sets s (lineBegins J r) (drop 1 (lineAnd J s r c))
 unfoldable pub commutator : ℕ → ℕ → ℕ
 commutator m p = p % m
 
-module _ (m n : ℕ) where
-  -- cell p goes in: at the end of the symbol filler dummies are added
-  unfoldable pub cellIn : List ℕ → ℕ → ℕ
-  cellIn x p = pick (ltb p n) (getD x p 0) filler
+-- cell p goes in: at the end of the symbol's n cells filler dummies are added
+unfoldable pub cellIn : ℕ → List ℕ → ℕ → ℕ
+cellIn n x p = pick (ltb p n) (getD x p 0) filler
 
+module _ (m n : ℕ) where
   -- the store s after the first p cells
   unfoldable pub storeAt : List ℕ → List ℕ → ℕ → List ℕ
   storeAt s x zero = s
-  storeAt s x (suc p) = storeAfter (ceiling n m) (storeAt s x p) (commutator m p) (cellIn x p)
+  storeAt s x (suc p) = storeAfter (ceiling n m) (storeAt s x p) (commutator m p) (cellIn n x p)
 
   -- the cell that comes out as cell p goes in
   unfoldable pub outAt : List ℕ → List ℕ → ℕ → ℕ
-  outAt s x p = cellOut (ceiling n m) (storeAt s x p) (commutator m p) (cellIn x p)
+  outAt s x p = cellOut (ceiling n m) (storeAt s x p) (commutator m p) (cellIn n x p)
 
   -- the store after the symbol and its dummies, J * M cells in all
   unfoldable pub figureStore : List ℕ → List ℕ → List ℕ

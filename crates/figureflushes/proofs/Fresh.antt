@@ -11,23 +11,22 @@ use lib.Dec.{eqb}
 use lib.ListN.{length, getD, replicate, length-replicate, getD-replicate}
 use lib.Seq.{sets, length-sets, ext-getD}
 use borrow.Author.Tests.{lt-ltb, le-ltb, eq-eqb, ne-eqb}
-use Rattle.counting.specs.Search.{pick, tabulate}
-use Rattle.counting.proofs.Lists.{length-tabulate, getD-tabulate, getD-sets-after, getD-sets-0}
+use Rattle.counting.specs.Search.{pick}
+use Rattle.counting.proofs.Lists.{getD-sets-after, getD-sets-0}
 use Rattle.rules.specs.declared.Device.{Device}
 use Rattle.rules.specs.Plan.{planOf}
 use Rattle.rules.specs.Frame.{Frame, frameOf, cells, spot, phaseBack, held, placeholder, filler}
-use Rattle.rules.specs.Places.{joined, placesBefore}
 use Rattle.spots.specs.Tied.{Turning}
 use Rattle.spots.proofs.Plans.{turning-of}
-use Rattle.places.proofs.Kept.{joined-length, joined-at}
-use Rattle.exchange.proofs.Exchanges.{Within, within}
+use Rattle.places.proofs.Kept.{Within}
 use Rattle.pattern.specs.Until.{symbolsUntil}
 use Rattle.flushes.specs.Spotted.{Spotted}
 use Rattle.flushes.proofs.Fresh.{flush-cell, held-until}
 use Rattle.figure.specs.Figure.{ceiling, lineBegins}
 use Rattle.figure.specs.Steps.{J, literalPlaces, freshPlace, freshLiteral}
-use Rattle.figure.proofs.Sizes.{enough, begins-grow}
+use Rattle.figure.proofs.Sizes.{enough, begins-grow, in-line, begins-at}
 use Rattle.figure.proofs.Turns.{turn-below, below-times, line-of, turn-of}
+use Rattle.figure.proofs.Fresh.{fresh-at, fresh-past, length-fresh}
 use Rattle.figureflushes.specs.Placeholders.{withPlaceholders}
 use Rattle.figureflushes.proofs.Putting.{length-all-with}
 use Rattle.figureflushes.proofs.Places.{placed, not-placed, past-placed}
@@ -51,38 +50,6 @@ module _ (F : Frame) (base : ℕ) (turning : Turning F base) (j : ℕ) (fits : F
       rw line at (held-until F base turning j fits pos p i (omega (arith, line))) in
       rw (line-of (J F) i q hq, turn-of (J F) i q hq, lt-ltb p (cells F) h)
       (flush-cell F (phaseBack F j (r - i)) p h ∙ ap (λ (b : Bool). pick b placeholder filler) stands)
-
--- ---- the lines side by side
-
-module _ (F : Frame) (j : ℕ) where
-  -- line r
-  freshLine : ℕ → List ℕ
-  freshLine r = tabulate (freshPlace F j r) (r * J F)
-
-  line-length : (r : ℕ) → r < F .depth → length (freshLine r) ≡ r * J F
-  unfolding freshLine
-  line-length r h = length-tabulate (freshPlace F j r) (r * J F)
-
-  lines-length : length (joined freshLine (F .depth)) ≡ lineBegins (J F) (F .depth)
-  unfolding lineBegins placesBefore
-  lines-length = joined-length freshLine (λ r. r * J F) (F .depth) line-length
-
-  module _ (s : List ℕ) where
-    fresh-at : lineBegins (J F) (F .depth) ≤ length s → (r x : ℕ) → r < F .depth → x < r * J F
-        → getD (freshLiteral F j s) (lineBegins (J F) r + x) 0 ≡ freshPlace F j r x
-    unfolding freshLiteral freshLine lineBegins placesBefore
-    fresh-at long r x hr hx =
-        getD-sets-0 s (joined freshLine (F .depth)) 0 (lineBegins (J F) r + x) (omega (arith, lines-length, begins-grow (J F) r (F .depth) hr)) (omega (arith, lines-length))
-        ∙ joined-at freshLine (λ r. r * J F) (F .depth) line-length r x hr hx
-        ∙ getD-tabulate (freshPlace F j r) (r * J F) 0 x hx
-
-    fresh-past : (k : ℕ) → lineBegins (J F) (F .depth) ≤ k → getD (freshLiteral F j s) k 0 ≡ getD s k 0
-    unfolding freshLiteral freshLine
-    fresh-past k h = getD-sets-after s 0 (joined freshLine (F .depth)) 0 k (omega (arith, lines-length))
-
-    length-fresh : length (freshLiteral F j s) ≡ length s
-    unfolding freshLiteral freshLine
-    length-fresh = length-sets s 0 (joined freshLine (F .depth))
 
 -- ---- the store that is made of t, which holds filler in all places of the lines; kc are the subcarriers of the cells
 
@@ -126,14 +93,14 @@ module _ (F : Frame) (base : ℕ) (turning : Turning F base) (j : ℕ) (fits : F
       (λ c. let z : J F ≡ 0 = omega arith in absurd (omega (arith, hx, ap (λ (k : ℕ). r * k) z)))
 
   made-is : (s : List ℕ) → length t ≡ length s → ((k : ℕ) → lineBegins (J F) (F .depth) ≤ k → getD t k 0 ≡ getD s k 0) → made ≡ freshLiteral F j s
-  unfolding made lineBegins placesBefore
+  unfolding made literalPlaces
   made-is s size rest =
       ext-getD 0 made (freshLiteral F j s) (length-all-with (F .depth) (J F) (base + j) kc t (cells F) ∙ size ∙ sym (length-fresh F j s))
       (λ k l.
       by-cases (decLt k (lineBegins (J F) (F .depth)))
       (λ c.
-      let w : Within (λ r. r * J F) (F .depth) k = within (λ r. r * J F) (F .depth) k c in
-      rw (w .is) (made-at (w .cell) (w .nth) (w .below) (w .inside) ∙ sym (fresh-at F j s (omega arith) (w .cell) (w .nth) (w .below) (w .inside))))
+      let w : Within (λ r. r * J F) (F .depth) k = in-line (J F) (F .depth) k c in
+      rw (begins-at (J F) (F .depth) k w) at (made-at (w .cell) (w .nth) (w .below) (w .inside) ∙ sym (fresh-at F j s (omega arith) (w .cell) (w .nth) (w .below) (w .inside))))
       (λ c.
       past-placed (F .depth) (J F) (base + j) kc t (cells F) pos all long k (omega arith)
       ∙ rest k (omega arith) ∙ sym (fresh-past F j s k (omega arith))))

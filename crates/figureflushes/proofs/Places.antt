@@ -12,27 +12,19 @@ use borrow.Author.Tests.{lt-ltb, le-ltb}
 use Rattle.rules.specs.Frame.{placeholder}
 use Rattle.pattern.specs.Until.{symbolsUntil}
 use Rattle.figure.specs.Figure.{lineBegins}
-use Rattle.figure.proofs.Sizes.{begins-grow}
-use Rattle.figure.proofs.Turns.{turn-below, below-times, line-of, turn-of}
+use Rattle.figure.proofs.Sizes.{begins-grow, same-place}
+use Rattle.figure.proofs.Turns.{turn-below, below-times, line-of, turn-of, same-cell}
 use Rattle.figureflushes.specs.Placeholders.{withPlaceholder, withPlaceholders}
 use Rattle.figureflushes.proofs.Putting.{length-all-with}
 
 -- ---- a place is one of one line, and there that of one cell and one symbol
 
-one-line : (J r r′ x x′ : ℕ) → x < r * J → x′ < r′ * J → lineBegins J r + x ≡ lineBegins J r′ + x′ → r ≡ r′
-one-line J r r′ x x′ h h′ e =
-    by-cases (decLt r r′) (λ c. absurd (omega (arith, begins-grow J r r′ c)))
-    (λ c. by-cases (decLt r′ r) (λ g. absurd (omega (arith, begins-grow J r′ r g))) (λ g. omega arith))
-
 one-place : (J r r′ i i′ q q′ : ℕ) → i < r → i′ < r′ → q < J → q′ < J → lineBegins J r + (i * J + q) ≡ lineBegins J r′ + (i′ * J + q′)
     → (r ≡ r′) × (i ≡ i′) × (q ≡ q′)
 one-place J r r′ i i′ q q′ hi hi′ hq hq′ e =
-    let same : r ≡ r′ = one-line J r r′ (i * J + q) (i′ * J + q′) (below-times i q J r hi hq) (below-times i′ q′ J r′ hi′ hq′) e in
-    let at : i * J + q ≡ i′ * J + q′ = omega (arith, ap (lineBegins J) same, e) in (
-      same,
-      sym (turn-of J i q hq) ∙ ap (λ (x : ℕ). x / J) at ∙ turn-of J i′ q′ hq′,
-      sym (line-of J i q hq) ∙ ap (λ (x : ℕ). x % J) at ∙ line-of J i′ q′ hq′,
-    )
+    let w = same-place J r (i * J + q) r′ (i′ * J + q′) (below-times i q J r hi hq) (below-times i′ q′ J r′ hi′ hq′) e in
+    let z = same-cell J i q i′ q′ hq hq′ (w .1) in
+    (w .0, z .0, z .1)
 
 -- ---- the placeholders put
 

@@ -2,7 +2,7 @@
 use Prim.Native.Nat.{ℕ, _≤_, _<_}
 use mathlib.Core.Path.{_≡_, refl, sym, ap, subst₂, _∙_}
 use mathlib.Core.Bool.{true, false, false≢true}
-use mathlib.Core.List.{List, []}
+use mathlib.Core.List.{List}
 use native.Mathlib.Omega.{arith}
 use lib.ListN.{length, replicate, length-replicate}
 use borrow.Author.Tests.{lt-leb, le-ltb, leb-false, ltb-false}
@@ -15,7 +15,7 @@ use Rattle.rules.specs.declared.StartAnswer.the-variants as a-start
 use Rattle.rules.specs.Device.{khz50, phases}
 use Rattle.rules.specs.Plan.{planOf}
 use Rattle.rules.specs.Grounds.{_else_, ground?, grounds1to15, verdict}
-use Rattle.rules.specs.Frame.{Frame, frameOf, cells}
+use Rattle.rules.specs.Frame.{Frame, frameOf}
 use Rattle.rules.specs.Store.{emitterPlaces}
 use Rattle.rules.specs.Steps.{Emitter, Starting, starts, refused, shortStore, ground16}
 use Rattle.rules.proofs.Findings.{both-fine, when-fine, by-finding}
@@ -25,7 +25,7 @@ use Rattle.facts.proofs.Sizes.{khz50-roomy}
 use Rattle.verdicts.proofs.Verdicts.{no-ground}
 use Rattle.figure.specs.Steps.{literalPlaces, ground27, figureStartGrounds, freshLiteral, frameStart, frameStep, figureSendStep, figureStartStep}
 use Rattle.figure.proofs.Sizes.{lengths-add-up}
-use Rattle.runs.specs.Run.{cellEntries, isStarted, Fresh}
+use Rattle.runs.specs.Run.{isStarted, Fresh}
 use Rattle.runs.proofs.Steps.{frameEntries, frame-entries, FreshIn, freshEmitter, fresh-in}
 use Rattle.figureruns.specs.Same.{withEmitter, figureEntries, SameEmitters, SameAsFigure}
 use Rattle.figureruns.proofs.Emitters.{figureFrame, SecondIn, emitters-alike, filler-thrown}

@@ -1,7 +1,7 @@
 -- The first and the second emitter, started at the same phase, do the same. Assumes nothing.
 use Prim.Native.Nat.{ℕ, _+_, _-_, _*_, _/_, _%_, _≤_, _<_}
 use mathlib.Core.Path.{_≡_, refl, sym, ap, subst, _∙_}
-use mathlib.Core.Bool.{true, not, _||_}
+use mathlib.Core.Bool.{not, _||_}
 use mathlib.Core.List.{List, map}
 use native.Mathlib.Nat.{mod-lt, div-add-mod'}
 use native.Mathlib.Omega.{arith}
@@ -10,29 +10,26 @@ use lib.Dec.{leb, ltb, eqb}
 use lib.ListN.{length, getD, replicate}
 use lib.Seq.{length-sets}
 use borrow.Author.Tests.{le-ltb, lt-ltb}
-use Rattle.counting.specs.Search.{when, tabulate}
-use Rattle.counting.proofs.Lists.{length-tabulate, getD-tabulate, getD-sets-0}
+use Rattle.counting.specs.Search.{when}
 use Rattle.rules.specs.declared.Finding.{Finding}
 use Rattle.rules.specs.declared.Finding.the-variants.{Fine, Ground}
-use Rattle.rules.specs.declared.StartAnswer.the-variants as a-start
 use Rattle.rules.specs.declared.SendAnswer.the-variants as a-send
 use Rattle.rules.specs.Grounds.{_else_, ground?}
 use Rattle.rules.specs.Frame.{Frame, cells, delay, nextPhase, phaseBack, Given, flush, inputCells, lineSymbol, filler}
-use Rattle.rules.specs.Places.{emitterDelay, joined, placesBefore}
 use Rattle.rules.specs.Store.{emitterPlaces, freshStore}
 use Rattle.rules.specs.Steps as first
-use Rattle.rules.specs.Steps.{Emitter, Send, Sending, Starting, starts, refused, ground16, shortStore, ground17, profileGround, givenGrounds, sendGrounds, nextState, startGrounds}
+use Rattle.rules.specs.Steps.{Emitter, Send, Sending, refused, ground16, shortStore, ground17, profileGround, givenGrounds, sendGrounds, nextState}
 use Rattle.frame.proofs.Cells.{Sound}
-use Rattle.places.proofs.Kept.{joined-length, joined-at}
-use Rattle.figure.specs.Figure.{ceiling, lineBegins, figureStore, thrownAway}
+use Rattle.figure.specs.Figure.{thrownAway}
 use Rattle.figure.specs.Steps as second
-use Rattle.figure.specs.Steps.{J, literalPlaces, ground27, figureGrounds, figureStartGrounds, freshPlace, freshLiteral}
-use Rattle.figure.proofs.Sizes.{enough, begins-grow}
+use Rattle.figure.specs.Steps.{J, literalPlaces, ground27, figureGrounds, freshPlace, freshLiteral}
+use Rattle.figure.proofs.Sizes.{enough}
 use Rattle.figure.proofs.Turns.{turn-below, below-times}
+use Rattle.figure.proofs.Fresh as second-fresh
 use Rattle.runs.specs.Results.{sendResult}
-use Rattle.runs.specs.Run.{Entries, isSent, emitterLeft, sendings, input, sent, emitterAfter, isStarted, Fresh}
+use Rattle.runs.specs.Run.{Entries, isSent, emitterLeft, sendings, input, sent, emitterAfter}
 use Rattle.runs.proofs.Results.{same-results, same-accepted, alike-after}
-use Rattle.runs.proofs.Steps.{frameEntries, as-given, not-refused, FreshIn, freshEmitter}
+use Rattle.runs.proofs.Steps.{frameEntries, as-given, FreshIn, freshEmitter}
 use Rattle.runs.proofs.Emit.{fresh-at, closedSent, sent-closed}
 use Rattle.figureruns.specs.Same.{withEmitter, SameSent}
 use Rattle.figureruns.proofs.Stores.{Agree, linePlace, same-cells, agree-next, all-filler}
@@ -103,22 +100,10 @@ module _ (F : Frame) (ok : Sound F) (e g : Emitter) (a : Send) (alike : Alike F 
 -- ---- a fresh start
 
 module _ (F : Frame) (ok : Sound F) (j : ℕ) (lent : List ℕ) (fits : literalPlaces F ≤ length lent) where
-  line-length : (r : ℕ) → r < F .depth → length (tabulate (freshPlace F j r) (r * J F)) ≡ r * J F
-  line-length r h = length-tabulate (freshPlace F j r) (r * J F)
-
-  -- place i of line r of the fresh store
-  literal-at : (r i : ℕ) → r < F .depth → i < r * J F → getD (freshLiteral F j lent) (lineBegins (J F) r + i) 0 ≡ freshPlace F j r i
-  unfolding freshLiteral lineBegins placesBefore literalPlaces
-  literal-at r i hr hi =
-      let f : ℕ → List ℕ = λ r. tabulate (freshPlace F j r) (r * J F) in
-      let l : length (joined f (F .depth)) ≡ placesBefore (λ r. r * J F) (F .depth) = joined-length f (λ r. r * J F) (F .depth) line-length in
-      getD-sets-0 lent (joined f (F .depth)) 0 (lineBegins (J F) r + i) (omega (arith, l, begins-grow (J F) r (F .depth) hr)) (omega (arith, l))
-      ∙ joined-at f (λ r. r * J F) (F .depth) line-length r i hr hi ∙ getD-tabulate (freshPlace F j r) (r * J F) 0 i hi
-
   -- cell p of the symbol that comes out i symbols on
   literal-cell : (p i : ℕ) → p < J F * F .depth → i < p % F .depth → getD (freshLiteral F j lent) (linePlace (F .depth) (cells F) p i) 0 ≡ freshPlace F j (p % F .depth) (i * J F + p / F .depth)
   literal-cell p i hp hi =
-      literal-at (p % F .depth) (i * J F + p / F .depth) (mod-lt p (ok .depth-pos))
+      second-fresh.fresh-at F j lent fits (p % F .depth) (i * J F + p / F .depth) (mod-lt p (ok .depth-pos))
       (below-times i (p / F .depth) (J F) (p % F .depth) hi (turn-below (F .depth) (J F) p (ok .depth-pos) hp))
 
   literal-own : (p i : ℕ) → p < cells F → i < p % F .depth
@@ -158,9 +143,9 @@ pub record SecondIn (F : Frame) (j : ℕ) (g : Emitter) : Type 0 where
   pub fits : literalPlaces F ≤ length lent
   pub is-fresh : g ≡ record { state = record { phase = j }; store = freshLiteral F j lent }
 
-module _ (F : Frame) (ok : Sound F) (j : ℕ) (e g : Emitter) (fresh : FreshIn F j e) (second-fresh : SecondIn F j g) where
+module _ (F : Frame) (ok : Sound F) (j : ℕ) (e g : Emitter) (fresh : FreshIn F j e) (second-in : SecondIn F j g) where
   alike : Alike F e g
-  alike = rw (second-fresh .is-fresh) (lent-alike F ok j (second-fresh .lent) (second-fresh .fits) e fresh)
+  alike = rw (second-in .is-fresh) (lent-alike F ok j (second-in .lent) (second-in .fits) e fresh)
 
   same-inputs : (steps : List Send) → input (frameEntries F) e steps ≡ input (figureFrame F) g steps
   unfolding input

@@ -1,7 +1,7 @@
 -- A short and a literal store that hold the same send the same cells, and hold the same after the step; and all that is thrown away is filler.
 -- Assumes nothing.
 use Prim.Native.Nat.{ℕ, suc, _+_, _-_, _*_, _/_, _%_, _≤_, _<_}
-use mathlib.Core.Path.{_≡_, refl, sym, ap, _∙_}
+use mathlib.Core.Path.{_≡_, sym, ap, _∙_}
 use mathlib.Core.Logic.{by-cases}
 use mathlib.Core.List.{List}
 use native.Mathlib.Nat.{mod-lt, div-add-mod', zero-mul}
@@ -36,10 +36,10 @@ module _ (m n : ℕ) (pos : 0 < m) (s g x : List ℕ) (agree : Agree m n s g) wh
   long = agree .lines-fit
 
   -- what comes out of the lines as cell p goes in
-  out-first : (p : ℕ) → p < J * m → p % m ≡ 0 → outAt m n g x p ≡ cellIn m n x p
+  out-first : (p : ℕ) → p < J * m → p % m ≡ 0 → outAt m n g x p ≡ cellIn n x p
   out-first p h z =
       let e : p / m ≡ p % m * J + p / m = omega (arith, ap (λ (r : ℕ). r * J) z, zero-mul J) in
-      out-is m n pos g x long p h ∙ through-new m n pos g x long (p % m) (p / m) (p / m) e ∙ ap (cellIn m n x) (div-add-mod' p m)
+      out-is m n pos g x long p h ∙ through-new m n pos g x long (p % m) (p / m) (p / m) e ∙ ap (cellIn n x) (div-add-mod' p m)
 
   out-later : (p : ℕ) → p < J * m → 0 < p % m → outAt m n g x p ≡ getD g (linePlace m n p 0) 0
   out-later p h some =
@@ -56,12 +56,12 @@ module _ (m n : ℕ) (pos : 0 < m) (s g x : List ℕ) (agree : Agree m n s g) wh
       ∙ ap (through m n pos g x long (p % m)) e
       ∙ through-old m n pos g x long (p % m) (suc i * J + p / m) (below-times (suc i) (p / m) J (p % m) hi q)
 
-  came : (p i : ℕ) → p < J * m → suc i ≡ p % m → getD (figureStore m n g x) (linePlace m n p i) 0 ≡ cellIn m n x p
+  came : (p i : ℕ) → p < J * m → suc i ≡ p % m → getD (figureStore m n g x) (linePlace m n p i) 0 ≡ cellIn n x p
   came p i h hi =
       let q : p / m < J = turn-below m J p pos h in
       let e : J + (i * J + p / m) ≡ p % m * J + p / m = omega (arith, ap (λ (r : ℕ). r * J) hi) in
       after-symbol m n pos g x long (p % m) (i * J + p / m) (mod-lt p pos) (below-times i (p / m) J (p % m) (omega arith) q)
-      ∙ through-new m n pos g x long (p % m) (J + (i * J + p / m)) (p / m) e ∙ ap (cellIn m n x) (div-add-mod' p m)
+      ∙ through-new m n pos g x long (p % m) (J + (i * J + p / m)) (p / m) e ∙ ap (cellIn n x) (div-add-mod' p m)
 
   -- a cell of the symbol is one of the J turns
   below : (p : ℕ) → p < n → p < J * m
@@ -70,7 +70,7 @@ module _ (m n : ℕ) (pos : 0 < m) (s g x : List ℕ) (agree : Agree m n s g) wh
   cell-sent : (p : ℕ) → p < n → getD (placesAnd (emitterDelay m) s x p) 0 0 ≡ outAt m n g x p
   cell-sent p hp =
       by-cases (ℕ-discrete (p % m) 0)
-      (λ z. place-new (emitterDelay m) n s x (agree .places-fit) p 0 hp (sym z) ∙ sym (out-first p (below p hp) z ∙ cell-own m n x p hp))
+      (λ z. place-new (emitterDelay m) n s x (agree .places-fit) p 0 hp (sym z) ∙ sym (out-first p (below p hp) z ∙ cell-own n x p hp))
       (λ z.
       place-old (emitterDelay m) n s x (agree .places-fit) p 0 hp (omega arith) ∙ agree .same p 0 hp (omega arith)
       ∙ sym (out-later p (below p hp) (omega arith)))
@@ -89,17 +89,17 @@ module _ (m n : ℕ) (pos : 0 < m) (s g x : List ℕ) (agree : Agree m n s g) wh
         (λ c. place-old (emitterDelay m) n s x (agree .places-fit) p (suc i) hp c ∙ agree .same p (suc i) hp c ∙ sym (kept p i (below p hp) c))
         (λ c.
         let e : suc i ≡ p % m = omega arith in
-        place-new (emitterDelay m) n s x (agree .places-fit) p (suc i) hp e ∙ sym (came p i (below p hp) e ∙ cell-own m n x p hp));
+        place-new (emitterDelay m) n s x (agree .places-fit) p (suc i) hp e ∙ sym (came p i (below p hp) e ∙ cell-own n x p hp));
     dummies = λ p i hn hp hi.
         by-cases (decLt (suc i) (p % m))
         (λ c. kept p i hp c ∙ agree .dummies p (suc i) hn hp c)
-        (λ c. came p i hp (omega arith) ∙ cell-dummy m n x p hn);
+        (λ c. came p i hp (omega arith) ∙ cell-dummy n x p hn);
   }
 
   dummy-out : (p : ℕ) → n ≤ p → p < J * m → outAt m n g x p ≡ filler
   dummy-out p hn hp =
       by-cases (ℕ-discrete (p % m) 0)
-      (λ z. out-first p hp z ∙ cell-dummy m n x p hn)
+      (λ z. out-first p hp z ∙ cell-dummy n x p hn)
       (λ z. out-later p hp (omega arith) ∙ agree .dummies p 0 hn hp (omega arith))
 
   pub all-filler : thrownAway m n g x ≡ replicate (J * m - n) filler

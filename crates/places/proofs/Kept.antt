@@ -55,23 +55,42 @@ joined-at f d n h p i hp hi =
     ap (λ (k : ℕ). getD (joined f n) (k + i) 0) (sym (sum-cong (λ p. length (f p)) d p (λ q l. h q (omega arith))))
     ∙ getD-joined f n p i hp (omega (arith, h p hp))
 
+-- ---- where the places of a cell begin, and where a place stands
+
+pub start-suc : (d : ℕ → ℕ) (p : ℕ) → placesBefore d (suc p) ≡ placesBefore d p + d p
+unfolding placesBefore sum
+start-suc d p = refl
+
+pub start-grow : (d : ℕ → ℕ) (p k : ℕ) → p < k → placesBefore d p + d p ≤ placesBefore d k
+unfolding placesBefore
+start-grow d p k h = sum-grow d p k h
+
+-- place k is one of the places of a cell below n
+pub record Within (d : ℕ → ℕ) (n k : ℕ) : Type 0 where
+  pub cell : ℕ
+  pub nth : ℕ
+  pub below : cell < n
+  pub inside : nth < d cell
+  pub is : k ≡ placesBefore d cell + nth
+
+pub within : (d : ℕ → ℕ) (n k : ℕ) → k < placesBefore d n → Within d n k
+within d zero k h = absurd (let e : placesBefore d 0 ≡ 0 = unfold placesBefore sum in refl in omega arith)
+within d (suc n) k h =
+    by-cases (decLt k (placesBefore d n))
+    (λ c.
+    let w : Within d n k = within d n k c in
+    record { cell = w .cell; nth = w .nth; below = omega (arith, w .below); inside = w .inside; is = w .is })
+    (λ c. record { cell = n; nth = k - placesBefore d n; below = omega arith; inside = omega (arith, start-suc d n); is = omega arith })
+
 -- ---- one step
 
 module _ (d : ℕ → ℕ) where
-  pub start-suc : (p : ℕ) → placesBefore d (suc p) ≡ placesBefore d p + d p
-  unfolding placesBefore sum
-  start-suc p = refl
-
-  pub start-grow : (p k : ℕ) → p < k → placesBefore d p + d p ≤ placesBefore d k
-  unfolding placesBefore
-  start-grow p k h = sum-grow d p k h
-
   module _ (n : ℕ) (s x : List ℕ) (long : placesBefore d n ≤ length s) where
     -- the places of cell p
     places-length : (p : ℕ) → p < n → length (take (d p) (drop (placesBefore d p) s)) ≡ d p
     places-length p hp =
         length-take (d p) (drop (placesBefore d p) s)
-        ∙ min-eq-left (let h : d p ≤ length (drop (placesBefore d p) s) = omega (arith, length-drop (placesBefore d p) s, start-grow p n hp) in h)
+        ∙ min-eq-left (let h : d p ≤ length (drop (placesBefore d p) s) = omega (arith, length-drop (placesBefore d p) s, start-grow d p n hp) in h)
 
     pub place-old : (p i : ℕ) → p < n → i < d p → getD (placesAnd d s x p) i 0 ≡ getD s (placesBefore d p + i) 0
     unfolding placesAnd
@@ -95,7 +114,7 @@ module _ (d : ℕ → ℕ) where
     moved-at p i hp h =
         let f : ℕ → List ℕ = λ p. drop 1 (placesAnd d s x p) in
         let l : length (joined f n) ≡ placesBefore d n = joined-length f d n rest-length in
-        getD-sets-0 s (joined f n) 0 (placesBefore d p + i) (omega (arith, start-grow p n hp)) (omega arith)
+        getD-sets-0 s (joined f n) 0 (placesBefore d p + i) (omega (arith, start-grow d p n hp)) (omega arith)
         ∙ joined-at f d n rest-length p i hp h
         ∙ getD-drop 1 (placesAnd d s x p) i 0 ∙ ap (λ (k : ℕ). getD (placesAnd d s x p) k 0) (let e : 1 + i ≡ suc i = omega arith in e)
 

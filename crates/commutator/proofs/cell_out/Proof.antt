@@ -15,10 +15,10 @@ same-length : tie.Need-same-length
 same-length c = search needs
 
 returns : tie.Need-returns
-returns c = sym (sent-own _ _ _ (c .if1 .taken))
+returns c = let a = c .before .args in sym (sent-own (a .cells .now) (a .p) (a .v) (c .if1 .taken))
 
 returns-2 : tie.Need-returns-2
-returns-2 c = sym (sent-dummy _ _ _ (c .if1 .left))
+returns-2 c = let a = c .before .args in sym (sent-dummy (a .cells .now) (a .p) (a .v) (c .if1 .left))
 
 pub cell-out-spec : {M : Type 1} → statement M
 cell-out-spec = tie.close (tie.spec mul-cells slice-write-cells same-length returns returns-2)
