@@ -6,9 +6,11 @@
 
 A symbol of ten cells goes through four delay lines, so J is 3, and two dummies are added.  Symbols a to e
 are followed, after x, y and z, which went in before the start: with e the last cell of b has come out.
-Each cell is known by its symbol and its position; a dummy has position 10 or 11.
+Each cell is known by its symbol and its position; a dummy has position 10 or 11.  Symbol a is also what
+crates/figure/specs/Worked.antt works out; its lists and lengths are held to the queues, too.
 """
 
+import re
 import sys
 from typing import NamedTuple
 
@@ -21,6 +23,7 @@ from figure import Commutator, Drawing
 N, M = 10, 4
 BEFORE, SYMBOLS, FOLLOWED = 'xyz', 'abcde', 'ab'
 PAGE = 'docs/FIGURE.md'
+WORKED = 'crates/figure/specs/Worked.antt'
 PICTURE = 'docs/commutator.svg'
 BEGIN, END = '<!-- %s: made by tests/commutator.py -->', '<!-- end of %s -->'
 
@@ -71,21 +74,24 @@ class Passed(NamedTuple):
 
 
 def passed():
-    """Each symbol from a on."""
+    """What the lines hold before a, and each symbol from a on."""
     drawing = Watching(N, M)
     lines = drawing.lines_in([None] * drawing.length())
     found = {}
+    begun = None
     for symbol in BEFORE + SYMBOLS:
+        if symbol == SYMBOLS[0]:
+            begun = [list(line) for line in lines]
         cells = drawing.with_dummies([Cell(symbol, p) for p in range(N)], None)
         given = [cell or Cell(symbol, p) for p, cell in enumerate(cells)]
         out = drawing.through(lines, given)
         found[symbol] = Passed(given, out, drawing.kept(out), drawing.thrown(out),
                                {cell: r for cell, r, _ in drawing.last.seen},
                                [list(line) for line in lines], drawing.last.stands_on)
-    return {symbol: found[symbol] for symbol in SYMBOLS}
+    return begun, {symbol: found[symbol] for symbol in SYMBOLS}
 
 
-PASSED = passed()
+BEGUN, PASSED = passed()
 
 
 def comes_out(cell):
@@ -104,6 +110,42 @@ def check():
         for cell in PASSED[symbol].given:
             late, position = comes_out(cell)
             assert SYMBOLS.index(late) == SYMBOLS.index(symbol) + cell.p % M and position == cell.p
+
+
+# --- the symbol that the definitions work out ------------------------------------
+
+def worked_lists():
+    """The lists of symbol a, in the words of the definitions."""
+    def words(cells):
+        return ' ∷ '.join('filler' if cell.is_dummy() else cell.name() for cell in cells) + ' ∷ []'
+
+    through = PASSED[SYMBOLS[0]]
+    drawing = Drawing(N, M)
+    return {'given': words(through.given[:N]), 'before': words(drawing.side_by_side(BEGUN)),
+            'afterwards': words(drawing.side_by_side(through.lines)),
+            'sent': words(through.sent), 'thrown': words(through.thrown)}
+
+
+def wrong_worked(text):
+    """What is wrong with the symbol and the lengths worked out."""
+    wrong = [name for name, cells in worked_lists().items() if text.count('  %s = %s\n' % (name, cells)) != 1]
+    sizes = re.findall(r'(?:figureStore|figureCells|thrownAway) (\d+) (\d+) before given', text)
+    wrong += [] if sizes == [(str(M), str(N))] * 3 else ['the sizes are %s' % sizes]
+    lengths = re.findall(r'lineBegins \(ceiling (\d+) (\d+)\) (\d+) ≡ (\d+)', text)
+    wrong += [' '.join(found) for found in lengths
+              if found[1] != found[2] or Drawing(int(found[0]), int(found[1])).length() != int(found[3])]
+    return wrong if len(lengths) == 2 else wrong + ['%d lengths' % len(lengths)]
+
+
+def check_worked():
+    text = (stored.ROOT / WORKED).read_text(encoding='utf-8')
+    assert not wrong_worked(text), wrong_worked(text)
+    for name, cells in worked_lists().items():      # two cells exchanged, in each list
+        first, second, rest = cells.split(' ∷ ', 2)
+        bent = ' ∷ '.join((second, first, rest)) if first != second else ' ∷ '.join((first, rest))
+        assert wrong_worked(text.replace('  %s = %s' % (name, cells), '  %s = %s' % (name, bent))), name
+    for number in ('642', '58528', '425', '3745', 'Cells 4', 'Store 4'):
+        assert wrong_worked(text.replace(number, number + '0')), number
 
 
 # --- the tables --------------------------------------------------------------
@@ -286,6 +328,7 @@ def picture_lines():
 
 def main():
     check()
+    check_worked()
     picture = ''.join(line + '\n' for line in picture_lines()).encode()
     text_now = (stored.ROOT / PAGE).read_text(encoding='utf-8')
     differing = stored.keep({PICTURE: picture, PAGE: page(text_now).encode()})

@@ -176,12 +176,12 @@ def check_steps():
 
 # --- the run ---------------------------------------------------------------
 
-def compare(program, files):
+def compare(program, files, line_of=line):
     """Runs the program on the files; answers how many lines differ."""
     wrong = 0
     for path in files:
         plan = path.read_bytes()
-        want = line(plan) + '\n'
+        want = line_of(plan) + '\n'
         got = subprocess.run([program], input=plan, capture_output=True).stdout.decode()
         wrong += got != want
         print('%s %s: %s' % ('agrees ' if got == want else 'DIFFERS', path.name, got.rstrip()))

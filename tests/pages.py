@@ -22,6 +22,7 @@ sys.dont_write_bytecode = True
 import loads
 import model
 import points
+from figure import literal_length
 
 ROOT = Path(__file__).resolve().parent.parent
 X = model.Limits()
@@ -53,8 +54,9 @@ NUMBERS = {
     22: (*points.Points.loads[:4], points.Points.loads[-1]),
     25: (X.last_subcarrier + 1, *loads.LISTED[:3], loads.LISTED[-1]),
     26: (8,),
+    27: (literal_length(425, 4), literal_length(X.most_ranks, X.highest_m)),
 }
-GROUNDS = range(1, 27)
+GROUNDS = range(1, 28)
 
 
 def plan(name):
@@ -97,7 +99,7 @@ def wrong_calls(number, text):
     bits = {'headend_fill', 'headend_unfill'}
     wanted = {16: calls() - {'headend_judge', 'headend_try'} - modulate, 17: starts | steps | modulate, 18: {'headend_emit'} | bits,
               19: {'headend_emit', 'headend_unfill'}, 20: {'headend_receive'}, 21: calls(), 22: modulate, 23: modulate, 24: set(),
-              25: {'headend_emit', 'headend_receive'} | bits, 26: bits}[number]
+              25: {'headend_emit', 'headend_receive'} | bits, 26: bits, 27: set()}[number]
     if named == wanted and wanted <= calls():
         return []
     return ['ground %d: other calls: %s' % (number, ' '.join(sorted(named ^ wanted)))]

@@ -350,18 +350,18 @@ stack() {
     said "$1 with a stack of $2 KiB" "$(cat "crates/$1/stdout")" ''
 }
 
-for program in plancheck trycheck whycheck linkcheck; do
+for program in plancheck trycheck whycheck linkcheck figurecheck; do
     each $program "$(cat crates/$program/stdout)" '' ''
 done
 for program in plancases trycases whycases emitcases receivecases fillcases modulatecases; do
     each $program "$(cat crates/$program/stdout)" "$(sed '$d' crates/$program/stdout)" ''
 done
 each rolecases "$(cat crates/rolecases/stdout)" "$(sed '$d' crates/rolecases/stdout)" "$(head -n 1 crates/rolecases/stdout)"
-for program in plancheck trycheck whycheck linkcheck plancases trycases whycases rolecases emitcases receivecases fillcases pointcases \
-    modulatecases; do
+for program in plancheck trycheck whycheck linkcheck figurecheck plancases trycases whycases rolecases emitcases receivecases fillcases \
+    pointcases modulatecases; do
     unwritten $program
 done
-for program in plancheck trycheck whycheck linkcheck; do
+for program in plancheck trycheck whycheck linkcheck figurecheck; do
     bench $program
 done
 ranges
@@ -372,6 +372,6 @@ grep -oE '^- `[a-z]+`: [0-9]+ KiB' docs/PLANCHECK.md | tr -d '`:-' > "$work/stac
 while read -r program size unit; do
     stack "$program" "$size"
 done < "$work/stacks"
-[ "$(wc -l < "$work/stacks")" -eq 13 ] || differs 'docs/PLANCHECK.md does not give the stack of thirteen programs'
+[ "$(wc -l < "$work/stacks")" -eq 14 ] || differs 'docs/PLANCHECK.md does not give the stack of fourteen programs'
 [ $differences -eq 0 ] || { echo "programs.sh: $differences differences in $runs runs"; exit 1; }
 echo "programs.sh: $runs runs, all as said"

@@ -3,3 +3,4 @@ pub mod Turns
 pub mod Lines
 pub mod Fresh
 pub mod Needs
+pub mod Worked

@@ -1,3 +1,4 @@
 pub mod Figure
 pub mod Steps
+pub mod Worked
 pub mod Needs

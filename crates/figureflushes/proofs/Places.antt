@@ -28,43 +28,43 @@ one-place J r r′ i i′ q q′ hi hi′ hq hq′ e =
 
 -- ---- the placeholders put
 
-module _ (m unit base : ℕ) (kc : List ℕ) where
+module _ (m J base : ℕ) (kc : List ℕ) where
   -- how many symbols on the pattern stands on the subcarrier of cell c
   until : ℕ → ℕ
   until c = symbolsUntil base (getD kc c 0)
 
   -- the place of cell c that is then sent
   placeOf : ℕ → ℕ
-  placeOf c = lineBegins unit (c % m) + (until c * unit + c / m)
+  placeOf c = lineBegins J (c % m) + (until c * J + c / m)
 
   module _ (t : List ℕ) where
-    put-here : (p : ℕ) → until p < p % m → placeOf p < length t → getD (withPlaceholders m unit base kc t (suc p)) (placeOf p) 0 ≡ placeholder
+    put-here : (p : ℕ) → until p < p % m → placeOf p < length t → getD (withPlaceholders m J base kc t (suc p)) (placeOf p) 0 ≡ placeholder
     unfolding until placeOf withPlaceholders withPlaceholder
     put-here p c h =
         rw (lt-ltb (symbolsUntil base (getD kc p 0)) (p % m) c)
-        (getD-set-same (withPlaceholders m unit base kc t p) (placeOf p) placeholder 0 (omega (arith, length-all-with m unit base kc t p)))
+        (getD-set-same (withPlaceholders m J base kc t p) (placeOf p) placeholder 0 (omega (arith, length-all-with m J base kc t p)))
 
-    put-beside : (p k : ℕ) → (until p < p % m → k ≢ placeOf p) → getD (withPlaceholders m unit base kc t (suc p)) k 0 ≡ getD (withPlaceholders m unit base kc t p) k 0
+    put-beside : (p k : ℕ) → (until p < p % m → k ≢ placeOf p) → getD (withPlaceholders m J base kc t (suc p)) k 0 ≡ getD (withPlaceholders m J base kc t p) k 0
     unfolding until placeOf withPlaceholders withPlaceholder
     put-beside p k h =
         by-cases (decLt (until p) (p % m))
         (λ c.
         rw (lt-ltb (symbolsUntil base (getD kc p 0)) (p % m) c)
-        (getD-set-other (withPlaceholders m unit base kc t p) (placeOf p) k placeholder 0 (h c)))
+        (getD-set-other (withPlaceholders m J base kc t p) (placeOf p) k placeholder 0 (h c)))
         (λ c. rw (le-ltb (symbolsUntil base (getD kc p 0)) (p % m) (omega arith)) refl)
 
     -- a place that is put for no cell stays
-    put-other : (p k : ℕ) → ((c : ℕ) → c < p → until c < c % m → k ≢ placeOf c) → getD (withPlaceholders m unit base kc t p) k 0 ≡ getD t k 0
+    put-other : (p k : ℕ) → ((c : ℕ) → c < p → until c < c % m → k ≢ placeOf c) → getD (withPlaceholders m J base kc t p) k 0 ≡ getD t k 0
     put-other zero k h = unfold withPlaceholders in refl
     put-other (suc p) k h = put-beside p k (h p (omega arith)) ∙ put-other p k (λ c l. h c (omega arith))
 
-    put-own : (p c : ℕ) → c < p → until c < c % m → placeOf c < length t → getD (withPlaceholders m unit base kc t p) (placeOf c) 0 ≡ placeholder
+    put-own : (p c : ℕ) → c < p → until c < c % m → placeOf c < length t → getD (withPlaceholders m J base kc t p) (placeOf c) 0 ≡ placeholder
     put-own zero c l d h = absurd (not-suc-le-zero l)
     put-own (suc p) c l d h =
         by-cases (ℕ-discrete c p)
         (λ e. rw e (put-here p (rw e at d) (rw e at h)))
         (λ e.
-        let rest : getD (withPlaceholders m unit base kc t p) (placeOf c) 0 ≡ placeholder = put-own p c (omega arith) d h in
+        let rest : getD (withPlaceholders m J base kc t p) (placeOf c) 0 ≡ placeholder = put-own p c (omega arith) d h in
         by-cases (decLt (until p) (p % m))
         (λ g.
         by-cases (ℕ-discrete (placeOf c) (placeOf p))
@@ -72,35 +72,35 @@ module _ (m unit base : ℕ) (kc : List ℕ) where
         (λ z. put-beside p (placeOf c) (λ b. z) ∙ rest))
         (λ g. put-beside p (placeOf c) (λ b. absurd (omega arith)) ∙ rest))
 
--- ---- place i * unit + q of line r, which is that of cell q * m + r
+-- ---- place i * J + q of line r, which is that of cell q * m + r
 
-module _ (m unit base : ℕ) (kc t : List ℕ) (n : ℕ) (pos : 0 < m) (all : n ≤ unit * m) (long : lineBegins unit m ≤ length t) where
-  module _ (r i q : ℕ) (hr : r < m) (hi : i < r) (hq : q < unit) where
-    pub placed : q * m + r < n → i ≡ symbolsUntil base (getD kc (q * m + r) 0) → getD (withPlaceholders m unit base kc t n) (lineBegins unit r + (i * unit + q)) 0 ≡ placeholder
+module _ (m J base : ℕ) (kc t : List ℕ) (n : ℕ) (pos : 0 < m) (all : n ≤ J * m) (long : lineBegins J m ≤ length t) where
+  module _ (r i q : ℕ) (hr : r < m) (hi : i < r) (hq : q < J) where
+    pub placed : q * m + r < n → i ≡ symbolsUntil base (getD kc (q * m + r) 0) → getD (withPlaceholders m J base kc t n) (lineBegins J r + (i * J + q)) 0 ≡ placeholder
     unfolding until placeOf
     placed h e =
         let c : ℕ = q * m + r in
         let line : c % m ≡ r = line-of m q r hr in
-        let at : placeOf m unit base kc c ≡ lineBegins unit r + (i * unit + q) = λ k. lineBegins unit (line k) + (sym e k * unit + turn-of m q r hr k) in
+        let at : placeOf m J base kc c ≡ lineBegins J r + (i * J + q) = λ k. lineBegins J (line k) + (sym e k * J + turn-of m q r hr k) in
         rw at at
-        (put-own m unit base kc t n c h (omega (arith, line)) (omega (arith, at, begins-grow unit r m hr, below-times i q unit r hi hq)))
+        (put-own m J base kc t n c h (omega (arith, line)) (omega (arith, at, begins-grow J r m hr, below-times i q J r hi hq)))
 
     pub not-placed : (q * m + r < n → i ≡ symbolsUntil base (getD kc (q * m + r) 0) → ⊥)
-        → getD (withPlaceholders m unit base kc t n) (lineBegins unit r + (i * unit + q)) 0 ≡ getD t (lineBegins unit r + (i * unit + q)) 0
+        → getD (withPlaceholders m J base kc t n) (lineBegins J r + (i * J + q)) 0 ≡ getD t (lineBegins J r + (i * J + q)) 0
     unfolding until placeOf
     not-placed h =
-        put-other m unit base kc t n (lineBegins unit r + (i * unit + q))
+        put-other m J base kc t n (lineBegins J r + (i * J + q))
         (λ c hc hu e.
-        let below : c < unit * m = omega arith in
-        let z = one-place unit r (c % m) i (symbolsUntil base (getD kc c 0)) q (c / m) hi hu hq (turn-below m unit c pos below) e in
+        let below : c < J * m = omega arith in
+        let z = one-place J r (c % m) i (symbolsUntil base (getD kc c 0)) q (c / m) hi hu hq (turn-below m J c pos below) e in
         let own : c ≡ q * m + r = sym ((λ k. z .2 k * m + z .0 k) ∙ div-add-mod' c m) in
         h (omega (arith, own, hc)) (z .1 ∙ ap (λ (x : ℕ). symbolsUntil base (getD kc x 0)) own))
 
   -- past the lines
-  pub past-placed : (k : ℕ) → lineBegins unit m ≤ k → getD (withPlaceholders m unit base kc t n) k 0 ≡ getD t k 0
+  pub past-placed : (k : ℕ) → lineBegins J m ≤ k → getD (withPlaceholders m J base kc t n) k 0 ≡ getD t k 0
   unfolding until placeOf
   past-placed k h =
-      put-other m unit base kc t n k
+      put-other m J base kc t n k
       (λ c hc hu e.
-      let below : c < unit * m = omega arith in
-      absurd (omega (arith, e, begins-grow unit (c % m) m (mod-lt c pos), below-times (symbolsUntil base (getD kc c 0)) (c / m) unit (c % m) hu (turn-below m unit c pos below))))
+      let below : c < J * m = omega arith in
+      absurd (omega (arith, e, begins-grow J (c % m) m (mod-lt c pos), below-times (symbolsUntil base (getD kc c 0)) (c / m) J (c % m) hu (turn-below m J c pos below))))

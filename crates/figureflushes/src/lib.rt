@@ -18,21 +18,14 @@ use rules::Device;
 // The mark of a scattered placeholder.
 const PLACEHOLDER: u16 = 0x8000;
 
-// The place of a cell that is sent i symbols on becomes a placeholder, if there is such a place: the cell's line begins at `begins` and has `unit`
-// places for each of the `delay` symbols of its delay, and among these `unit` the cell's is number `turn`.
-fn put_placeholder(
-    store: &mut [u16],
-    begins: usize,
-    turn: usize,
-    unit: usize,
-    delay: usize,
-    i: usize,
-)
-    requires { ⌜ (turn < unit) × (begins + delay * unit ≤ length (now store)) ⌝ }
-    ensures { λ _. ⌜ now (store .exit) ≡ withPlaceholder begins turn unit delay i (now (store .entry)) ⌝ }
+// The place of a cell that is sent i symbols on becomes a placeholder, if there is such a place: the cell's line begins at `begins` and has J places,
+// here j, for each of the `delay` symbols of its delay, and among these the cell's is number `turn`.
+fn put_placeholder(store: &mut [u16], begins: usize, turn: usize, j: usize, delay: usize, i: usize)
+    requires { ⌜ (turn < j) × (begins + delay * j ≤ length (now store)) ⌝ }
+    ensures { λ _. ⌜ now (store .exit) ≡ withPlaceholder begins turn j delay i (now (store .entry)) ⌝ }
 {
     if i < delay {
-        store[begins + (i * unit + turn)] = PLACEHOLDER;
+        store[begins + (i * j + turn)] = PLACEHOLDER;
     }
 }
 
@@ -42,14 +35,14 @@ fn put_placeholders(m: usize, base: usize, kc: &[u16], store: &mut [u16])
     requires { ⌜ (0 < m) × (m ≤ capacity) × (length (now kc) ≤ capacity) × (figure.lineBegins (figure.ceiling (length (now kc)) m) m ≤ length (now store)) ⌝ }
     ensures { λ _. ⌜ now (store .exit) ≡ withPlaceholders m (figure.ceiling (length (now (kc .entry))) m) base (now (kc .entry)) (now (store .entry)) (length (now (kc .entry))) ⌝ }
 {
-    let unit = figure::ceiling(kc.len(), m);
+    let j = figure::ceiling(kc.len(), m);
     let mut p = 0;
     let mut begins = 0;
     let mut line = 0;
     let mut turn = 0;
     while p < kc.len() {
         let i = pattern::symbols_until(base, kc[p]);
-        put_placeholder(store, begins, turn, unit, line, i);
+        put_placeholder(store, begins, turn, j, line, i);
         p += 1;
         if line + 1 == m {
             begins = 0;
@@ -57,18 +50,18 @@ fn put_placeholders(m: usize, base: usize, kc: &[u16], store: &mut [u16])
             turn += 1;
             continue;
         }
-        begins = begins + line * unit;
+        begins = begins + line * j;
         line += 1;
     }
 }
 
-// The places of a fresh literal store at phase j, from the subcarriers of the cells.
-pub fn fresh_lines(d: Device, plan: &[u8], j: usize, kc: &[u16], store: &mut [u16])
-    requires { ⌜ Spotted d (now plan) (now kc) × (j < phases) × (literalPlaces (frameOf d (planOf (now plan))) ≤ length (now store)) ⌝ }
-    ensures { λ _. ⌜ now (store .exit) ≡ freshLiteral (frameOf d (planOf (now (plan .entry)))) j (now (store .entry)) ⌝ }
+// The places of a fresh literal store at a phase, from the subcarriers of the cells.
+pub fn fresh_lines(d: Device, plan: &[u8], phase: usize, kc: &[u16], store: &mut [u16])
+    requires { ⌜ Spotted d (now plan) (now kc) × (phase < phases) × (literalPlaces (frameOf d (planOf (now plan))) ≤ length (now store)) ⌝ }
+    ensures { λ _. ⌜ now (store .exit) ≡ freshLiteral (frameOf d (planOf (now (plan .entry)))) phase (now (store .entry)) ⌝ }
 {
     let l = records::number_at(plan, 4);
     let m = records::number_at(plan, 6);
     flushes::put_filler(store, figure::literal_places(m, kc.len()));
-    put_placeholders(m, l + d.plcWidth + j, kc, store);
+    put_placeholders(m, l + d.plcWidth + phase, kc, store);
 }

@@ -58,7 +58,7 @@ returns c =
     let made = c .before .before .before .before .before .before .before .before in
     let g = made .before .before .before .before .before .before .before in
     let a = g .args in
-    fresh-of (a .d) (a .plan .now) (a .kc .now) (g .pre .0) _ (deep (made .before .before)) (a .j) _ _ (made .before .before .before .number-at .ensures .0) (made .literal-places .ensures)
+    fresh-of (a .d) (a .plan .now) (a .kc .now) (g .pre .0) _ (deep (made .before .before)) (a .phase) _ _ (made .before .before .before .number-at .ensures .0) (made .literal-places .ensures)
     (a .store .now) _ _ (g .pre .2) (c .before .before .before .before .before .before .before .put-filler .ensures) (c .before .before .put-placeholders .ensures)
 
 pub fresh-lines-spec : {M : Type 1} → statement M

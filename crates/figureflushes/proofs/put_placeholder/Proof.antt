@@ -10,8 +10,8 @@ use Rattle.figureflushes.proofs.put_placeholder.Statement.{statement}
 use Rattle.figureflushes.proofs.put_placeholder.Tie as tie
 
 -- the place lies within the line
-inside : (c : tie.Then1) → c .before .args .i * c .before .args .unit + c .before .args .turn < c .before .args .delay * c .before .args .unit
-inside c = let a = c .before .args in below-times (a .i) (a .turn) (a .unit) (a .delay) (c .if1 .taken) (c .before .pre .0)
+inside : (c : tie.Then1) → c .before .args .i * c .before .args .j + c .before .args .turn < c .before .args .delay * c .before .args .j
+inside c = let a = c .before .args in below-times (a .i) (a .turn) (a .j) (a .delay) (c .if1 .taken) (c .before .pre .0)
 
 mul-store : tie.Need-mul-store
 mul-store c = omega (arith, inside c)

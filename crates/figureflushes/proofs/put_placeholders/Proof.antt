@@ -9,10 +9,10 @@ use Rattle.figureflushes.proofs.put_placeholders.Statement.{statement}
 use Rattle.figureflushes.proofs.put_placeholders.Tie as tie
 
 abbrev Inv-loop : tie.InvT-loop
-Inv-loop m base kc store₀ unit p₀ begins₀ line₀ turn₀ store p begins line turn = Putting m unit base kc store₀ store p begins line turn
+Inv-loop m base kc store₀ j p₀ begins₀ line₀ turn₀ store p begins line turn = Putting m j base kc store₀ store p begins line turn
 
 abbrev μ-loop : tie.MeasureT-loop
-μ-loop m base kc store₀ unit p₀ begins₀ line₀ turn₀ store p begins line turn = length kc - p
+μ-loop m base kc store₀ j p₀ begins₀ line₀ turn₀ store p begins line turn = length kc - p
 
 ceiling-requires : tie.Need-ceiling-requires Inv-loop μ-loop
 ceiling-requires c κs = search needs
