@@ -1,4 +1,4 @@
 pub mod Cells
 pub mod Rounds
-pub mod Rings
+pub mod Turned
 pub mod Symbols

@@ -1,4 +1,4 @@
--- Lines turned by J places, so that the oldest cell stands first again. Assumes nothing.
+-- Places that take other cells, and lines turned by J places, so that the oldest cell stands first again. Assumes nothing.
 use Prim.Native.Nat.{ℕ, _+_, _-_, _*_, _≤_, _<_}
 use mathlib.Core.Path.{_≡_}
 use mathlib.Core.List.{List}
@@ -10,6 +10,13 @@ use Rattle.figure.specs.Figure.{lineBegins}
 -- the place from which place i of a line of so many cells takes its cell as the line is turned by J places
 unfoldable pub turnedFrom : ℕ → ℕ → ℕ → ℕ
 turnedFrom len J i = pick (ltb (i + J) len) (i + J) (i + J - len)
+
+-- the cells s with f 0, f 1, .. in the n places from `at` on are t
+pub record Replaced (at n : ℕ) (f : ℕ → ℕ) (s t : List ℕ) : Type 0 where
+  pub places : length t ≡ length s
+  pub put : (i : ℕ) → i < n → getD t (at + i) 0 ≡ f i
+  pub before : (k : ℕ) → k < at → getD t k 0 ≡ getD s k 0
+  pub past : (k : ℕ) → at + n ≤ k → getD t k 0 ≡ getD s k 0
 
 -- the store s with the line of so many cells from `at` on turned by J places is t
 pub record LineTurned (at len J : ℕ) (s t : List ℕ) : Type 0 where

@@ -2,7 +2,7 @@
 use Prim.Native.Nat.{ℕ, suc, _+_, _*_, _/_, _%_, _≤_, _<_}
 use mathlib.Core.Path.{_≡_, refl, sym, ap, _∙_}
 use mathlib.Core.Logic.{by-cases}
-use native.Mathlib.Nat.{mod-lt, mod-eq-of-lt, mul-add-mod-self-right, div-add-mod', mul-le-mul-right, add-zero}
+use native.Mathlib.Nat.{mod-lt, mod-eq-of-lt, mul-add-mod-self-right, div-add-mod', mul-le-mul-right, add-zero, zero-mod, mod-add-mod}
 use native.Mathlib.Decide.{decLt}
 use native.Mathlib.Omega.{arith}
 use lib.Arith.{digits-div, digits-mod}
@@ -10,6 +10,16 @@ use lib.Dec.{eqb}
 use borrow.Author.Tests.{ne-eqb}
 use Rattle.counting.specs.Search.{bit, sum, count}
 use Rattle.counting.proofs.Sums.{sum-cong, sum-split, sum-blocks, sum-none, count-eq}
+use Rattle.figure.specs.Figure.{commutator}
+
+-- it begins on line 0, and moves on to the next line, after line m - 1 to line 0 again
+pub begins-on-line-0 : (m : ℕ) → commutator m 0 ≡ 0
+unfolding commutator
+begins-on-line-0 m = zero-mod m
+
+pub moves-on : (m p : ℕ) → commutator m (suc p) ≡ (commutator m p + 1) % m
+unfolding commutator
+moves-on m p = ap (λ (x : ℕ). x % m) (let e : suc p ≡ p + 1 = omega arith in e) ∙ sym (mod-add-mod p m 1)
 
 -- how many of the first p cells go to line c of m
 unfoldable pub onLine : ℕ → ℕ → ℕ → ℕ
