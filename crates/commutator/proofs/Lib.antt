@@ -1,4 +1,3 @@
 pub mod Cells
 pub mod Rounds
-pub mod Turned
 pub mod Symbols

@@ -16,9 +16,9 @@ use Rattle.figure.proofs.Sizes.{enough, in-line, begins-at}
 use Rattle.figure.proofs.Turns.{turn-below, below-times}
 use Rattle.figure.proofs.Lines.{cell-own, through, through-old, through-new, out-is, after-symbol, past-symbol, length-symbol}
 use Rattle.commutator.specs.Round.{comesOut, Gone}
-use Rattle.commutator.specs.Turned.{LinesTurned}
+use Rattle.turnedlines.specs.Turned.{LinesTurned}
 use Rattle.commutator.proofs.Rounds.{out-straight, out-oldest, taken, not-taken}
-use Rattle.commutator.proofs.Turned.{from-ahead, from-first}
+use Rattle.turnedlines.proofs.Turned.{from-ahead, from-first}
 
 module _ (m : ℕ) (pos : 0 < m) (s x t y t′ : List ℕ) (long : lineBegins (ceiling (length x) m) m ≤ length s) (gone : Gone (ceiling (length x) m) m s x (ceiling (length x) m * m) t y) (turned : LinesTurned (ceiling (length x) m) m t t′) where
   abbrev J : ℕ

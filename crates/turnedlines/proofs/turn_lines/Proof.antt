@@ -1,13 +1,13 @@
--- `commutator::turn_lines` meets its contract. The lines before line r are turned, and the buffer is as long as it was. Assumes nothing.
+-- `turnedlines::turn_lines` meets its contract. The lines before line r are turned, and the buffer is as long as it was. Assumes nothing.
 use borrow.Author.Needs.{needs}
 use Prim.Native.Nat.{_+_, _-_, _≤_}
 use mathlib.Core.Path.{_≡_, refl, sym, _∙_}
 use native.Mathlib.Omega.{arith}
 use lib.ListN.{length}
 use Rattle.rules.specs.Fits.{capacity}
-use Rattle.commutator.proofs.Turned.{Turns, turns-first, turns-fits, turns-next, turns-all}
-use Rattle.commutator.proofs.turn_lines.Statement.{statement}
-use Rattle.commutator.proofs.turn_lines.Tie as tie
+use Rattle.turnedlines.proofs.Turned.{Turns, turns-first, turns-fits, turns-next, turns-all}
+use Rattle.turnedlines.proofs.turn_lines.Statement.{statement}
+use Rattle.turnedlines.proofs.turn_lines.Tie as tie
 
 abbrev Inv-loop : tie.InvT-loop
 Inv-loop m j store₀ front₀ r₀ begin₀ len₀ store front r begin len = (length front ≡ capacity) × Turns j m store₀ store r begin len

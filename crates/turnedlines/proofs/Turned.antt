@@ -12,7 +12,7 @@ use borrow.Author.Tests.{lt-ltb, le-ltb}
 use Rattle.counting.specs.Search.{sum}
 use Rattle.figure.specs.Figure.{lineBegins}
 use Rattle.figure.proofs.Sizes.{begins-suc, begins-grow}
-use Rattle.commutator.specs.Turned.{turnedFrom, Replaced, LineTurned, LinesTurned}
+use Rattle.turnedlines.specs.Turned.{turnedFrom, Replaced, LineTurned, LinesTurned}
 
 pub from-ahead : (len J i : ℕ) → i + J < len → turnedFrom len J i ≡ i + J
 unfolding turnedFrom

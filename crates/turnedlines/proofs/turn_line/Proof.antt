@@ -1,10 +1,10 @@
--- `commutator::turn_line` meets its contract. Assumes nothing.
+-- `turnedlines::turn_line` meets its contract. Assumes nothing.
 use borrow.Author.Needs.{needs}
 use mathlib.Core.Path.{_∙_}
 use native.Mathlib.Omega.{arith}
-use Rattle.commutator.proofs.Turned.{line-turned}
-use Rattle.commutator.proofs.turn_line.Statement.{statement}
-use Rattle.commutator.proofs.turn_line.Tie as tie
+use Rattle.turnedlines.proofs.Turned.{line-turned}
+use Rattle.turnedlines.proofs.turn_line.Statement.{statement}
+use Rattle.turnedlines.proofs.turn_line.Tie as tie
 
 sub-n : tie.Need-sub-n
 sub-n c = c .before .before .pre .0
