@@ -1,4 +1,4 @@
--- A symbol through the lines: once the commutator has gone round and the lines are turned, the store and the cells are those of the figure. Assumes
+-- A symbol through the lines: once the commutator has gone round and the lines are rotated, the store and the cells are those of the figure. Assumes
 -- nothing.
 use Prim.Native.Nat.{ℕ, _+_, _-_, _*_, _/_, _%_, _≤_, _<_}
 use mathlib.Core.Path.{_≡_, sym, ap, _∙_}
@@ -16,11 +16,11 @@ use Rattle.figure.proofs.Sizes.{enough, in-line, begins-at}
 use Rattle.figure.proofs.Turns.{turn-below, below-times}
 use Rattle.figure.proofs.Lines.{cell-own, through, through-old, through-new, out-is, after-symbol, past-symbol, length-symbol}
 use Rattle.commutator.specs.Round.{comesOut, Gone}
-use Rattle.turnedlines.specs.Turned.{LinesTurned}
+use Rattle.rotatedlines.specs.Rotated.{LinesRotated}
 use Rattle.commutator.proofs.Rounds.{out-straight, out-oldest, taken, not-taken}
-use Rattle.turnedlines.proofs.Turned.{from-ahead, from-first}
+use Rattle.rotatedlines.proofs.Rotated.{from-ahead, from-first}
 
-module _ (m : ℕ) (pos : 0 < m) (s x t y t′ : List ℕ) (long : lineBegins (ceiling (length x) m) m ≤ length s) (gone : Gone (ceiling (length x) m) m s x (ceiling (length x) m * m) t y) (turned : LinesTurned (ceiling (length x) m) m t t′) where
+module _ (m : ℕ) (pos : 0 < m) (s x t y t′ : List ℕ) (long : lineBegins (ceiling (length x) m) m ≤ length s) (gone : Gone (ceiling (length x) m) m s x (ceiling (length x) m * m) t y) (rotated : LinesRotated (ceiling (length x) m) m t t′) where
   abbrev J : ℕ
   J = ceiling (length x) m
 
@@ -29,7 +29,7 @@ module _ (m : ℕ) (pos : 0 < m) (s x t y t′ : List ℕ) (long : lineBegins (c
   -- place i of line r: J places on stood a cell that was there before, or, past the line's end, a cell that went in
   line-stored : (r i : ℕ) → r < m → i < r * J → getD t′ (lineBegins J r + i) 0 ≡ getD (figureStore m (length x) s x) (lineBegins J r + i) 0
   line-stored r i hr hi =
-      turned .turned r i hr hi
+      rotated .rotated r i hr hi
       ∙ by-cases (decLt (i + J) (r * J))
       (λ c.
       let late : J * m ≤ (i + J) * m + r = omega (arith, mul-le-mul-right m (let l : J ≤ i + J = omega arith in l)) in
@@ -48,11 +48,11 @@ module _ (m : ℕ) (pos : 0 < m) (s x t y t′ : List ℕ) (long : lineBegins (c
       ∙ sym (after-symbol m (length x) pos s x long r i hr hi)
 
   past-lines : (k : ℕ) → lineBegins J m ≤ k → getD t′ k 0 ≡ getD (figureStore m (length x) s x) k 0
-  past-lines k h = turned .past k h ∙ gone .past k h ∙ sym (past-symbol m (length x) pos s x long k h)
+  past-lines k h = rotated .past k h ∙ gone .past k h ∙ sym (past-symbol m (length x) pos s x long k h)
 
   pub symbol-stored : t′ ≡ figureStore m (length x) s x
   symbol-stored =
-      ext-getD 0 t′ (figureStore m (length x) s x) (turned .places ∙ gone .places ∙ sym (length-symbol m (length x) pos s x long))
+      ext-getD 0 t′ (figureStore m (length x) s x) (rotated .places ∙ gone .places ∙ sym (length-symbol m (length x) pos s x long))
       (λ k h.
       by-cases (decLt k (lineBegins J m))
       (λ c. let w : Within (λ r. r * J) m k = in-line J m k c in rw (begins-at J m k w) at (line-stored (w .cell) (w .nth) (w .below) (w .inside)))
@@ -79,9 +79,9 @@ module _ (m : ℕ) (pos : 0 < m) (s x t y t′ : List ℕ) (long : lineBegins (c
   symbol-sent = is-tabulate y (length x) (outAt m (length x) s x) (gone .cells) (λ p h. gone .sent p h (omega (arith, enough (length x) m pos)) ∙ out-figure p h)
 
 -- with J by a name of its own
-pub symbol-is : (m J : ℕ) → 0 < m → (s x t y t′ : List ℕ) → J ≡ ceiling (length x) m → lineBegins (ceiling (length x) m) m ≤ length s → Gone J m s x (J * m) t y → LinesTurned J m t t′
+pub symbol-is : (m J : ℕ) → 0 < m → (s x t y t′ : List ℕ) → J ≡ ceiling (length x) m → lineBegins (ceiling (length x) m) m ≤ length s → Gone J m s x (J * m) t y → LinesRotated J m t t′
     → (t′ ≡ figureStore m (length x) s x) × (y ≡ figureCells m (length x) s x)
-symbol-is m J pos s x t y t′ e long gone turned =
+symbol-is m J pos s x t y t′ e long gone rotated =
     let g : Gone (ceiling (length x) m) m s x (ceiling (length x) m * m) t y = rw e at gone in
-    let u : LinesTurned (ceiling (length x) m) m t t′ = rw e at turned in
+    let u : LinesRotated (ceiling (length x) m) m t t′ = rw e at rotated in
     (symbol-stored m pos s x t y t′ long g u, symbol-sent m pos s x t y t′ long g u)

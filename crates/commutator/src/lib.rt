@@ -2,7 +2,7 @@
 // lines side by side in one store, line r holding r * J cells, the oldest first, and a commutator that goes round them. For each place of the
 // commutator one cell goes in and one comes out. The definition shifts a line at every cell. The code does not: within a symbol a line is a ring in
 // its own part of the store, where in turn q the oldest cell stands at place q and the cell that goes in takes its place; after the symbol the
-// line is turned by J places, so that the oldest stands first (crate turnedlines). The code is proved equal to the definition, and its time is linear in the store and
+// line is rotated by J places, so that the oldest stands first (crate rotatedlines). The code is proved equal to the definition, and its time is linear in the store and
 // the symbol.
 ghost use mathlib.Core.Path.{_≡_};
 ghost use Prim.Native.Nat.{_+_, _*_, _≤_, _<_};
@@ -61,7 +61,7 @@ fn turn(m: usize, j: usize, q: usize, store: &mut [u16], cells: &mut [u16])
 }
 
 // A symbol goes through the lines, in j turns of the commutator: its cells go in, and the delayed cells come out in their place. Then the lines are
-// turned.
+// rotated.
 pub fn pass(m: usize, store: &mut [u16], cells: &mut [u16])
     requires { ⌜ (0 < m) × (m ≤ capacity) × (length (now cells) ≤ capacity) × (lineBegins (ceiling (length (now cells)) m) m ≤ length (now store)) ⌝ }
     ensures stored { λ _. ⌜ now (store .exit) ≡ figureStore m (length (now (cells .entry))) (now (store .entry)) (now (cells .entry)) ⌝ }
@@ -73,5 +73,5 @@ pub fn pass(m: usize, store: &mut [u16], cells: &mut [u16])
         turn(m, j, q, store, cells);
         q += 1;
     }
-    turnedlines::turn_lines(m, j, store);
+    rotatedlines::rotate_lines(m, j, store);
 }

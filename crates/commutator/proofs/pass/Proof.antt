@@ -43,8 +43,8 @@ loop-less c = search needs
 loop-again : tie.Need-loop-again Inv-loop μ-loop
 loop-again c = (omega (arith, c .before .before .before .before .before .before .before .loop-test .taken), c .before .before .before .before .turn .ensures _ _ (c .before .before .before .before .before .before .before .before .loop .inv .1))
 
-turn-lines-requires : tie.Need-turn-lines-requires Inv-loop μ-loop
-turn-lines-requires c κs =
+rotate-lines-requires : tie.Need-rotate-lines-requires Inv-loop μ-loop
+rotate-lines-requires c κs =
     let g = c .before .before .before .before .before .before in
     (g .pre .0, g .pre .1, c .before .before .before .ceiling .ensures .1, fits (c .before .before))
 
@@ -62,7 +62,7 @@ returns c =
     let l = c .before .before .before .before .before .loop in
     symbol-is (a .m) (j .result) (g .pre .0) (a .store .now) (a .cells .now) _ _ _ (j .ensures .0) (g .pre .3)
     (gone-all (j .result) (a .m) (a .store .now) (a .cells .now) (l .q) (l .store) (l .cells) (l .inv .0) (c .before .before .before .before .loop-test .left) (l .inv .1))
-    (c .before .before .turn-lines .ensures)
+    (c .before .before .rotate-lines .ensures)
 
 pub pass-spec : {M : Type 1} → statement M
 pass-spec =
@@ -76,7 +76,7 @@ pass-spec =
     add-q
     loop-less
     loop-again
-    turn-lines-requires
+    rotate-lines-requires
     same-length
     same-length-2
     returns)

@@ -1,13 +1,13 @@
--- `turnedlines::shift_down` meets its contract. The first k places have their cells. Assumes nothing.
+-- `rotatedlines::shift_down` meets its contract. The first k places have their cells. Assumes nothing.
 use borrow.Author.Needs.{needs}
 use Prim.Native.Nat.{_+_, _-_, _≤_}
 use mathlib.Core.Path.{_≡_}
 use native.Mathlib.Omega.{arith}
 use lib.ListN.{getD}
-use Rattle.turnedlines.specs.Turned.{Replaced}
-use Rattle.turnedlines.proofs.Turned.{replaced-none, replaced-next}
-use Rattle.turnedlines.proofs.shift_down.Statement.{statement}
-use Rattle.turnedlines.proofs.shift_down.Tie as tie
+use Rattle.rotatedlines.specs.Rotated.{Replaced}
+use Rattle.rotatedlines.proofs.Rotated.{replaced-none, replaced-next}
+use Rattle.rotatedlines.proofs.shift_down.Statement.{statement}
+use Rattle.rotatedlines.proofs.shift_down.Tie as tie
 
 abbrev Inv-loop : tie.InvT-loop
 Inv-loop at n j store₀ from k₀ store k = (k ≤ n) × Replaced at k (λ i. getD store₀ (at + j + i) 0) store₀ store

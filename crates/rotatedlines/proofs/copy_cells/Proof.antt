@@ -1,13 +1,13 @@
--- `turnedlines::copy_cells` meets its contract. The first k places have their cells. Assumes nothing.
+-- `rotatedlines::copy_cells` meets its contract. The first k places have their cells. Assumes nothing.
 use borrow.Author.Needs.{needs}
 use Prim.Native.Nat.{_+_, _-_, _≤_}
 use mathlib.Core.Path.{_≡_, refl}
 use native.Mathlib.Omega.{arith}
 use lib.ListN.{getD}
-use Rattle.turnedlines.specs.Turned.{Replaced}
-use Rattle.turnedlines.proofs.Turned.{replaced-none, replaced-next}
-use Rattle.turnedlines.proofs.copy_cells.Statement.{statement}
-use Rattle.turnedlines.proofs.copy_cells.Tie as tie
+use Rattle.rotatedlines.specs.Rotated.{Replaced}
+use Rattle.rotatedlines.proofs.Rotated.{replaced-none, replaced-next}
+use Rattle.rotatedlines.proofs.copy_cells.Statement.{statement}
+use Rattle.rotatedlines.proofs.copy_cells.Tie as tie
 
 abbrev Inv-loop : tie.InvT-loop
 Inv-loop from a to₀ b n k₀ to k = (k ≤ n) × Replaced b k (λ i. getD from (a + i) 0) to₀ to

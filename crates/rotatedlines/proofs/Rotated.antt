@@ -1,4 +1,4 @@
--- Places that take other cells, a line turned by J places, and line after line. Assumes nothing.
+-- Places that take other cells, a line rotated by J places, and line after line. Assumes nothing.
 use Prim.Native.Nat.{ℕ, suc, _+_, _-_, _*_, _≤_, _<_}
 use mathlib.Core.Path.{_≡_, refl, sym, ap, _∙_}
 use mathlib.Core.Logic.{by-cases}
@@ -12,14 +12,14 @@ use borrow.Author.Tests.{lt-ltb, le-ltb}
 use Rattle.counting.specs.Search.{sum}
 use Rattle.figure.specs.Figure.{lineBegins}
 use Rattle.figure.proofs.Sizes.{begins-suc, begins-grow}
-use Rattle.turnedlines.specs.Turned.{turnedFrom, Replaced, LineTurned, LinesTurned}
+use Rattle.rotatedlines.specs.Rotated.{rotatedFrom, Replaced, LineRotated, LinesRotated}
 
-pub from-ahead : (len J i : ℕ) → i + J < len → turnedFrom len J i ≡ i + J
-unfolding turnedFrom
+pub from-ahead : (len J i : ℕ) → i + J < len → rotatedFrom len J i ≡ i + J
+unfolding rotatedFrom
 from-ahead len J i h = rw (lt-ltb (i + J) len h) refl
 
-pub from-first : (len J i : ℕ) → len ≤ i + J → turnedFrom len J i ≡ i + J - len
-unfolding turnedFrom
+pub from-first : (len J i : ℕ) → len ≤ i + J → rotatedFrom len J i ≡ i + J - len
+unfolding rotatedFrom
 from-first len J i h = rw (le-ltb (i + J) len h) refl
 
 -- ---- places that take other cells, one after the other
@@ -47,14 +47,14 @@ replaced-next at k f s t v go h e = record {
 -- ---- one line
 
 -- the first J cells are copied to a buffer, which is then f; the others go J places down; the cells of the buffer are copied to the last J places
-pub line-turned : (at len J : ℕ) (s f₀ f t t′ : List ℕ) → J ≤ len → Replaced 0 J (λ i. getD s (at + i) 0) f₀ f → Replaced at (len - J) (λ i. getD s (at + J + i) 0) s t
-    → Replaced (at + (len - J)) J (λ i. getD f (0 + i) 0) t t′ → LineTurned at len J s t′
-line-turned at len J s f₀ f t t′ h kept down last = record {
+pub line-rotated : (at len J : ℕ) (s f₀ f t t′ : List ℕ) → J ≤ len → Replaced 0 J (λ i. getD s (at + i) 0) f₀ f → Replaced at (len - J) (λ i. getD s (at + J + i) 0) s t
+    → Replaced (at + (len - J)) J (λ i. getD f (0 + i) 0) t t′ → LineRotated at len J s t′
+line-rotated at len J s f₀ f t t′ h kept down last = record {
   places = last .places ∙ down .places;
-  turned = λ i l.
+  rotated = λ i l.
       by-cases (decLt (i + J) len)
       (λ c.
-      let e : at + J + i ≡ at + turnedFrom len J i = omega (arith, from-ahead len J i c) in
+      let e : at + J + i ≡ at + rotatedFrom len J i = omega (arith, from-ahead len J i c) in
       last .before (at + i) (omega arith) ∙ down .put i (omega arith) ∙ ap (λ (k : ℕ). getD s k 0) e)
       (λ c.
       let c′ : len ≤ i + J = omega arith in
@@ -68,11 +68,11 @@ line-turned at len J s f₀ f t t′ h kept down last = record {
 
 -- ---- line after line
 
--- lines 0 and 1 turned are as they were
-lines-same : (J k : ℕ) (s : List ℕ) → k ≤ 2 → LinesTurned J k s s
+-- lines 0 and 1 rotated are as they were
+lines-same : (J k : ℕ) (s : List ℕ) → k ≤ 2 → LinesRotated J k s s
 lines-same J k s h = record {
   places = refl;
-  turned = λ r i hr hi.
+  rotated = λ r i hr hi.
       by-cases (ℕ-discrete r 1)
       (λ z.
       let size : r * J ≡ J = ap (λ (x : ℕ). x * J) z ∙ one-mul J in
@@ -82,60 +82,60 @@ lines-same J k s h = record {
 }
 
 -- one line more
-lines-next : (J r : ℕ) (s t t′ : List ℕ) → LinesTurned J r s t → 0 < r → LineTurned (lineBegins J r) (r * J) J t t′ → LinesTurned J (suc r) s t′
+lines-next : (J r : ℕ) (s t t′ : List ℕ) → LinesRotated J r s t → 0 < r → LineRotated (lineBegins J r) (r * J) J t t′ → LinesRotated J (suc r) s t′
 lines-next J r s t t′ go pos one = record {
   places = one .places ∙ go .places;
-  turned = λ q i hq hi.
+  rotated = λ q i hq hi.
       by-cases (decLt q r)
-      (λ c. one .before (lineBegins J q + i) (omega (arith, begins-grow J q r c)) ∙ go .turned q i c hi)
+      (λ c. one .before (lineBegins J q + i) (omega (arith, begins-grow J q r c)) ∙ go .rotated q i c hi)
       (λ c.
       let z : q ≡ r = omega arith in
       let h : i < r * J = rw z at hi in
-      rw z (one .turned i h ∙ go .past (lineBegins J r + turnedFrom (r * J) J i) (omega arith)));
+      rw z (one .rotated i h ∙ go .past (lineBegins J r + rotatedFrom (r * J) J i) (omega arith)));
   past = λ k h. one .past k (omega (arith, begins-suc J r)) ∙ go .past k (omega (arith, begins-suc J r));
 }
 
--- the lines before line r are turned; line r, of `len` cells, begins at `at`
-pub record Turns (J m : ℕ) (s t : List ℕ) (r at len : ℕ) : Type 0 where
+-- the lines before line r are rotated; line r, of `len` cells, begins at `at`
+pub record Rotates (J m : ℕ) (s t : List ℕ) (r at len : ℕ) : Type 0 where
   pub from : 1 ≤ r
   pub place : at ≡ lineBegins J r
   pub long : len ≡ r * J
-  pub turned : LinesTurned J r s t
+  pub rotated : LinesRotated J r s t
   pub few : m < r → (m ≤ 1) × (t ≡ s)
 
 module _ (J m : ℕ) (s : List ℕ) where
-  pub turns-first : 0 < m → Turns J m s s 2 J (J + J)
+  pub rotates-first : 0 < m → Rotates J m s s 2 J (J + J)
   unfolding lineBegins sum
-  turns-first pos = record {
+  rotates-first pos = record {
     from = omega arith;
     place = omega arith;
     long = omega arith;
-    turned = lines-same J 2 s (omega arith);
+    rotated = lines-same J 2 s (omega arith);
     few = λ h. (omega arith, refl);
   }
 
-  module _ (t : List ℕ) (r at len : ℕ) (go : Turns J m s t r at len) where
+  module _ (t : List ℕ) (r at len : ℕ) (go : Rotates J m s t r at len) where
     -- line r has J cells or more and lies within the store
-    pub turns-fits : r < m → lineBegins J m ≤ length s → (J ≤ len) × (at + len ≤ length t)
-    turns-fits hr fits = (
+    pub rotates-fits : r < m → lineBegins J m ≤ length s → (J ≤ len) × (at + len ≤ length t)
+    rotates-fits hr fits = (
       omega (arith, go .long, mul-le-mul-right J (go .from)),
-      omega (arith, go .place, go .long, go .turned .places, begins-grow J r m hr),
+      omega (arith, go .place, go .long, go .rotated .places, begins-grow J r m hr),
     )
 
-    pub turns-next : r < m → (t′ : List ℕ) → LineTurned at len J t t′ → Turns J m s t′ (r + 1) (at + len) (len + J)
-    turns-next hr t′ one =
+    pub rotates-next : r < m → (t′ : List ℕ) → LineRotated at len J t t′ → Rotates J m s t′ (r + 1) (at + len) (len + J)
+    rotates-next hr t′ one =
         let next : r + 1 ≡ suc r = omega arith in
-        let here : LineTurned (lineBegins J r) (r * J) J t t′ = rw (go .long) at (rw (go .place) at one) in
+        let here : LineRotated (lineBegins J r) (r * J) J t t′ = rw (go .long) at (rw (go .place) at one) in
         record {
           from = omega arith;
           place = rw next (omega (arith, go .place, go .long, begins-suc J r));
           long = omega (arith, go .long);
-          turned = rw next (lines-next J r s t t′ (go .turned) (go .from) here);
+          rotated = rw next (lines-next J r s t t′ (go .rotated) (go .from) here);
           few = λ h. absurd (omega arith);
         }
 
-    pub turns-all : m ≤ r → LinesTurned J m s t
-    turns-all h =
+    pub rotates-all : m ≤ r → LinesRotated J m s t
+    rotates-all h =
         by-cases (decLt m r)
         (λ c. rw (go .few c .1) (lines-same J m s (omega (arith, go .few c .0))))
-        (λ c. let z : m ≡ r = omega arith in rw z (go .turned))
+        (λ c. let z : m ≡ r = omega arith in rw z (go .rotated))

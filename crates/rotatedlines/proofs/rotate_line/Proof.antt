@@ -1,10 +1,10 @@
--- `turnedlines::turn_line` meets its contract. Assumes nothing.
+-- `rotatedlines::rotate_line` meets its contract. Assumes nothing.
 use borrow.Author.Needs.{needs}
 use mathlib.Core.Path.{_∙_}
 use native.Mathlib.Omega.{arith}
-use Rattle.turnedlines.proofs.Turned.{line-turned}
-use Rattle.turnedlines.proofs.turn_line.Statement.{statement}
-use Rattle.turnedlines.proofs.turn_line.Tie as tie
+use Rattle.rotatedlines.proofs.Rotated.{line-rotated}
+use Rattle.rotatedlines.proofs.rotate_line.Statement.{statement}
+use Rattle.rotatedlines.proofs.rotate_line.Tie as tie
 
 sub-n : tie.Need-sub-n
 sub-n c = c .before .before .pre .0
@@ -33,10 +33,10 @@ returns : tie.Need-returns
 returns c =
     let g = c .before .before .before .before .before .before .before .before .before .before .before .before .before .before .before .before in
     let a = g .args in
-    line-turned (a .at) (a .len) (a .j) (a .store .now) _ _ _ _ (g .pre .0) (c .before .before .before .before .before .before .before .before .before .before .before .copy-cells .ensures) (c .before .before .before .before .before .before .before .shift-down .ensures) (c .before .before .copy-cells2 .ensures)
+    line-rotated (a .at) (a .len) (a .j) (a .store .now) _ _ _ _ (g .pre .0) (c .before .before .before .before .before .before .before .before .before .before .before .copy-cells .ensures) (c .before .before .before .before .before .before .before .shift-down .ensures) (c .before .before .copy-cells2 .ensures)
 
-pub turn-line-spec : {M : Type 1} → statement M
-turn-line-spec =
+pub rotate-line-spec : {M : Type 1} → statement M
+rotate-line-spec =
     tie.close
     (tie.spec
     sub-n
