@@ -2,14 +2,14 @@
 use mathlib.Core.Path.{_≡_, refl}
 use mathlib.Core.Bool.{Bool, true, false}
 use mathlib.Core.Option.{Option, none, some}
-use mathlib.Core.List.{List}
+use mathlib.Core.List.{List, map}
 use Prim.Native.Nat.{ℕ, _/_, _≤_, _<_}
 use native.Mathlib.Omega.{arith}
-use lib.ListN.{length}
+use lib.ListN.{length, getD}
 use Rattle.counting.specs.Search.{when, isNone}
 use Rattle.rules.specs.declared.Device.{Device}
 use Rattle.rules.specs.declared.Finding.the-variants.{Fine}
-use Rattle.rules.specs.Plan.{planOf, chain, entry, isPlc}
+use Rattle.rules.specs.Plan.{Entry, planOf, chain, entry, isPlc}
 use Rattle.rules.specs.Grounds.{ground?, badLength, pilotsMax, chainGrounds, grounds1to5, grounds6to15, grounds1to15}
 use Rattle.rules.proofs.Findings.{not-fine, both-fine, when-fine}
 use Rattle.records.proofs.RecordLaws as record-laws
@@ -56,3 +56,8 @@ module _ (d : Device) (s : List ℕ) (fine : grounds1to15 d s ≡ Fine) where
   pub few-pilots : length (planOf s .pilots) ≤ pilotsMax
   unfolding planOf
   few-pilots = omega (arith, chain-laws.pilots-few d (length s / 8) 0 (chain s) (chain-stages .1) (omega arith))
+
+  -- a further pilot is one of the device's subcarriers
+  pub pilots-below : (q : ℕ) → q < length (map (λ (e : Entry). e .low) (planOf s .pilots)) → getD (map (λ (e : Entry). e .low) (planOf s .pilots)) q 0 < d .subcarriers
+  unfolding planOf
+  pilots-below = chain-laws.pilots-in d (length s / 8) 0 (chain s) (chain-stages .1)

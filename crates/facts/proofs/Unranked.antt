@@ -16,16 +16,16 @@ use Rattle.counting.proofs.Bools.{eqb-sym}
 use Rattle.facts.proofs.Few.{count-members, count-range}
 
 -- the numbers that kind 3 records name
-abbrev lows : List Entry → List ℕ
+abbrev pub lows : List Entry → List ℕ
 lows es = map (λ (e : Entry). e .low) es
 
-any-names : (k : ℕ) (es : List Entry) → any (names k) es ≡ oneOf k (lows es)
+pub any-names : (k : ℕ) (es : List Entry) → any (names k) es ≡ oneOf k (lows es)
 unfolding any oneOf
 any-names k [] = refl
 any-names k (e ∷ es) = ap₂ _||_ (eqb-sym (e .low) k) (any-names k es)
 
 module _ (d : Device) (p : Plan) where
-  length-predefined : length (predefined d (p .plc)) ≡ 2 * length (d .distances)
+  pub length-predefined : length (predefined d (p .plc)) ≡ 2 * length (d .distances)
   unfolding predefined
   length-predefined =
       let below : ℕ → ℕ = λ x. p .plc - x in

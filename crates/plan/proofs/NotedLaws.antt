@@ -64,7 +64,7 @@ module _ (d : Device) where
       go false h = omega arith
 
   -- the pilots of a chain with no ground
-  pilots-in : (r n : ℕ) (es : List Entry) → chainGrounds d r n es ≡ Fine → (q : ℕ) → q < length (map (λ (e : Entry). e .low) (only isPilot es)) → getD (map (λ (e : Entry). e .low) (only isPilot es)) q 0 < d .subcarriers
+  pub pilots-in : (r n : ℕ) (es : List Entry) → chainGrounds d r n es ≡ Fine → (q : ℕ) → q < length (map (λ (e : Entry). e .low) (only isPilot es)) → getD (map (λ (e : Entry). e .low) (only isPilot es)) q 0 < d .subcarriers
   unfolding chainGrounds only
   pilots-in r n [] f q l = absurd (omega arith)
   pilots-in r n (e ∷ es) f q l =
