@@ -11,12 +11,13 @@ use Rattle.rules.specs.Steps.{Starting, starts, Sending, leaves}
 use Rattle.rules.specs.Receive.{Listening, listens, Receiving, hears}
 use Rattle.rules.specs.declared.CountAnswer.{CountAnswer}
 use Rattle.rules.specs.Filling.{Filling, fills}
+use Rattle.bytelamp.specs.ByteLamp.{ByteListing, leavesList, ByteLamping, leavesLamp}
 use Rattle.modulator.specs.declared.ModulateAnswer.{ModulateAnswer}
 use Rattle.modulator.specs.Symbols.{Modulating, modulates}
 use Rattle.answerbytes.specs.declared.Told.{Told}
 use Rattle.answerbytes.specs.Layout.{written}
 use Rattle.answers.specs.Answer.{toldStart, toldListen, toldSend, toldReceive, toldCount, toldModulate}
-use Rattle.headend.specs.Calls.{says, saysStore, saysStep, saysNumbers, startTold, listenTold, sendTold, receiveTold, modulateTold, saysFill, fillTold}
+use Rattle.headend.specs.Calls.{says, saysStore, saysStep, saysNumbers, startTold, listenTold, sendTold, receiveTold, modulateTold, saysFill, fillTold, listTold, saysLamp, lampTold}
 
 -- what a call returns and writes of the answer t
 pub told : (n : ℕ) (a b : List ℕ) (t u : Told) → n ≡ t .number → b ≡ written a t → t ≡ u → says n b ≡ says (u .number) (written a u)
@@ -38,6 +39,12 @@ module _ (n : ℕ) (a b : List ℕ) (t : Told) (en : n ≡ t .number) (eb : b �
 
   pub fill-told : (r : CountAnswer) (l : List ℕ) (e : Filling) → t ≡ toldCount r → fills r l ≡ e → saysFill n l b ≡ fillTold e a
   fill-told r l e et es = rw (en, eb, et) (ap (λ (x : Filling). fillTold x a) es)
+
+  pub list-told : (r : CountAnswer) (l : List ℕ) (e : ByteListing) → t ≡ toldCount r → leavesList r l ≡ e → saysFill n l b ≡ listTold e a
+  list-told r l e et es = rw (en, eb, et) (ap (λ (x : ByteListing). listTold x a) es)
+
+  pub lamp-told : (r : CountAnswer) (c l : List ℕ) (e : ByteLamping) → t ≡ toldCount r → leavesLamp r c l ≡ e → saysLamp n c l b ≡ lampTold e a
+  lamp-told r c l e et es = rw (en, eb, et) (ap (λ (x : ByteLamping). lampTold x a) es)
 
   pub modulate-told : (r : ModulateAnswer) (l : List Float) (e : Modulating) → t ≡ toldModulate r → modulates r l ≡ e → saysNumbers n l b ≡ modulateTold e a
   modulate-told r l e et es = rw (en, eb, et) (ap (λ (x : Modulating). modulateTold x a) es)

@@ -1,4 +1,4 @@
--- The calls for a C host (requests 01, 04, 05, 07 and 08): too short an answer buffer is ground 21 and leaves all as it is; else a call returns and
+-- The calls for a C host (requests 01, 04, 05, 07, 08 and 10): too short an answer buffer is ground 21 and leaves all as it is; else a call returns and
 -- leaves what the entry beneath it answers and leaves. Assumes nothing.
 use Prim.Native.Nat.{ℕ}
 use mathlib.Core.List.{List}
@@ -13,6 +13,7 @@ use Rattle.rules.specs.Filling.{Filling}
 use Rattle.exclusion.specs.Trial.{trialOfNumbers}
 use Rattle.reasons.specs.Reasons.{whyAnswer}
 use Rattle.bytecells.specs.ByteSteps.{startBytes, listenBytes, emitBytes, flushBytes, receiveBytes, fillBytes, unfillBytes}
+use Rattle.bytelamp.specs.ByteLamp.{ByteListing, ByteLamping, pilotsBytes, lampBytes}
 use Rattle.modulator.specs.Symbols.{Modulating}
 use Rattle.bytemodulate.specs.ByteSymbols.{modulateBytes}
 use Rattle.answerbytes.specs.declared.Told.{Told}
@@ -56,13 +57,22 @@ pub record NumbersSaid : Type 0 where
 abbrev pub saysNumbers : ℕ → List Float → List ℕ → NumbersSaid
 saysNumbers n l a = record { said = says n a; numbers = l }
 
--- the same, with the lent data or stream
+-- the same, with the lent data, stream or list of pilots
 pub record FillSaid : Type 0 where
   pub said : Said
   pub left : List ℕ
 
 abbrev pub saysFill : ℕ → List ℕ → List ℕ → FillSaid
 saysFill n l a = record { said = says n a; left = l }
+
+-- the same, with the lamp's record and the lent lights
+pub record LampSaid : Type 0 where
+  pub said : Said
+  pub counts : List ℕ
+  pub lights : List ℕ
+
+abbrev pub saysLamp : ℕ → List ℕ → List ℕ → List ℕ → LampSaid
+saysLamp n r l a = record { said = says n a; counts = r; lights = l }
 
 -- what a call says of what the entry beneath it answered and left
 abbrev pub startTold : Starting → List ℕ → StoreSaid
@@ -82,6 +92,12 @@ modulateTold r a = saysNumbers (toldModulate (r .answer) .number) (r .numbers) (
 
 abbrev pub fillTold : Filling → List ℕ → FillSaid
 fillTold r a = saysFill (toldCount (r .answer) .number) (r .left) (written a (toldCount (r .answer)))
+
+abbrev pub listTold : ByteListing → List ℕ → FillSaid
+listTold r a = saysFill (toldCount (r .answer) .number) (r .list) (written a (toldCount (r .answer)))
+
+abbrev pub lampTold : ByteLamping → List ℕ → LampSaid
+lampTold r a = saysLamp (toldCount (r .answer) .number) (r .counts) (r .lights) (written a (toldCount (r .answer)))
 
 module _ (d : Device) (s : List ℕ) where
   unfoldable pub judgeCall : List ℕ → Said
@@ -129,6 +145,14 @@ module _ (d : Device) (s : List ℕ) where
   -- the load profile, the phase, the data, the start and the lent stream
   unfoldable pub unfillCall : List ℕ → ℕ → List ℕ → ℕ → List ℕ → List ℕ → FillSaid
   unfillCall w j ds start stream a = pick (short a) (saysFill 21 stream a) (fillTold (unfillBytes d s w j ds start stream) a)
+
+  -- the lent list of pilots
+  unfoldable pub pilotsCall : List ℕ → List ℕ → FillSaid
+  pilotsCall l a = pick (short a) (saysFill 21 l a) (listTold (pilotsBytes d s l) a)
+
+  -- the symbol, the lamp's record and the lent lights
+  unfoldable pub lampCall : List ℕ → List ℕ → List ℕ → List ℕ → LampSaid
+  lampCall y r l a = pick (short a) (saysLamp 21 r l a) (lampTold (lampBytes d s y r l) a)
 
 -- no plan: the symbol on the line, the load of each subcarrier, the sign of each subcarrier's pilot and the lent modulator symbol
 unfoldable pub modulateCall : Device → List ℕ → List ℕ → List ℕ → List Float → List ℕ → NumbersSaid

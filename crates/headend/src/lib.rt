@@ -3,7 +3,7 @@
 // answerbytes lay its answer out in the buffer.
 ghost use mathlib.Core.Path.{_≡_};
 ghost use Rattle.rules.specs.Device.{khz50};
-ghost use Rattle.headend.specs.Calls.{says, saysStore, saysStep, saysFill, saysNumbers, judgeCall, tryCall, roleCall, whyCall, countCall, startCall, listenCall, emitCall, flushCall, receiveCall, fillCall, unfillCall, modulateCall};
+ghost use Rattle.headend.specs.Calls.{says, saysStore, saysStep, saysFill, saysLamp, saysNumbers, judgeCall, tryCall, roleCall, whyCall, countCall, startCall, listenCall, emitCall, flushCall, receiveCall, fillCall, unfillCall, pilotsCall, lampCall, modulateCall};
 use rules::EmitterState;
 use rules::ReceiverState;
 
@@ -218,6 +218,37 @@ pub extern "C" fn headend_unfill(
     answerbytes::tell(
         answer,
         answers::told_count(bytefilling::unfill(plan, profile, phase, input, start, stream)),
+    )
+}
+
+// The continuous pilots of a plan, in the order of the lamp's record.
+#[no_mangle]
+pub extern "C" fn headend_pilots(plan: &[u8], list: &mut [u8], answer: &mut [u8]) -> u32
+    ensures { λ r. ⌜ saysFill r (now (list .exit)) (now (answer .exit)) ≡ pilotsCall khz50 (now (plan .entry)) (now (list .entry)) (now (answer .entry)) ⌝ }
+{
+    if answer.len() < ANSWER {
+        return 21;
+    }
+    answerbytes::tell(answer, answers::told_count(bytelamp::pilots(plan, list)))
+}
+
+// The pilot lamp is given a symbol.
+#[no_mangle]
+pub extern "C" fn headend_lamp(
+    plan: &[u8],
+    symbol: &[u8],
+    counts: &mut [u8],
+    lights: &mut [u8],
+    answer: &mut [u8],
+) -> u32
+    ensures { λ r. ⌜ saysLamp r (now (counts .exit)) (now (lights .exit)) (now (answer .exit)) ≡ lampCall khz50 (now (plan .entry)) (now (symbol .entry)) (now (counts .entry)) (now (lights .entry)) (now (answer .entry)) ⌝ }
+{
+    if answer.len() < ANSWER {
+        return 21;
+    }
+    answerbytes::tell(
+        answer,
+        answers::told_count(bytelamp::lamp(plan, symbol, counts, lights)),
     )
 }
 
