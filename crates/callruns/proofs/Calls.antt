@@ -61,7 +61,7 @@ receive-back (a-receive.Warming v) h w = refl
 receive-back (a-receive.Data v n) h w = ap (λ (b : Bool). pick b (a-receive.Warming v) (a-receive.Data v n)) (w refl)
 receive-back (a-receive.Refused n place v) h w = ap (λ (b : Bool). pick b (pick true (a-receive.Warming v) (a-receive.Data v 0)) (a-receive.Refused n place v)) h
 
-count-back : (r : CountAnswer) → eqb (toldCount r .number) 0 ≡ isCount r → countOf (toldCount r) ≡ r
+pub count-back : (r : CountAnswer) → eqb (toldCount r .number) 0 ≡ isCount r → countOf (toldCount r) ≡ r
 count-back (a-count.Count n) h = refl
 count-back (a-count.Refused n place) h = ap (λ (b : Bool). pick b (a-count.Count 0) (a-count.Refused n place)) h
 

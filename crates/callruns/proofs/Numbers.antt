@@ -41,6 +41,10 @@ use Rattle.reasons.specs.Reasons.{whyAnswer, named}
 use Rattle.reasons.proofs.Answers.{same-role}
 use Rattle.answers.specs.Answer.{toldVerdict, toldRole, toldWhy, toldCount, toldStart, toldListen, toldSend, toldReceive}
 use Rattle.runs.specs.Run.{isStarted, isListening, isSent, isReceived}
+use Rattle.pilots.specs.declared.PilotAnswer.{PilotAnswer}
+use Rattle.pilots.specs.Pilots.{continuousPilots, listing, noListing, pilotsAnswer}
+use Rattle.lamprecord.specs.Record.{lampCap, badRecord}
+use Rattle.lampgrounds.specs.Steps.{Lamping, lamps, noLights, lampGrounds, lampFinding, lampHears, lampStep}
 use Rattle.callruns.specs.Host.{isAccepted, isRole, isReasoned, isCount}
 
 -- why a subcarrier has its role is refused as the role is
@@ -282,3 +286,19 @@ module _ (d : Device) (s : List ℕ) where
       (by-ground (λ (r : Filling). toldCount (r .answer) .number) (λ r. isCount (r .answer)) (unfillGrounds F w j ds (length stream) a)
       (fills (a-count.Count (bitCount F w j)) (unfilledInto (dataLoads F w j) ds stream a)) (away stream) (unfill-numbered F w j ds (length stream) a) refl (λ n place. (refl, refl)))
       (λ n place. (refl, refl))
+
+  pub pilots-zero : eqb (toldCount (pilotsAnswer d s .answer) .number) 0 ≡ isCount (pilotsAnswer d s .answer)
+  unfolding pilotsAnswer
+  pilots-zero =
+      by-ground (λ (p : PilotAnswer). toldCount (p .answer) .number) (λ p. isCount (p .answer)) (grounds1to15 d s) (listing (continuousPilots d (planOf s))) noListing (plan-numbered d s) refl (λ n place. (refl, refl))
+
+  lamp-numbered : (r : List ℕ) (n : ℕ) → numbered (lampFinding d s r n) ≡ true
+  unfolding lampFinding lampGrounds
+  lamp-numbered r n =
+      both (grounds1to15 d s) _ (plan-numbered d s)
+      (more 28 (when (badRecord lampCap (length (continuousPilots d (planOf s))) r) 0) _ refl (last 17 (when (not (eqb n (d .subcarriers))) 0) refl))
+
+  pub lamp-zero : (r y : List ℕ) → eqb (toldCount (lampStep d s r y .answer .answer) .number) 0 ≡ isCount (lampStep d s r y .answer .answer)
+  unfolding lampStep lampHears
+  lamp-zero r y =
+      by-ground (λ (m : Lamping). toldCount (m .answer .answer) .number) (λ m. isCount (m .answer .answer)) (lampFinding d s r (length y)) (lampHears d s r y) (λ n place. lamps (noLights n place) r) (lamp-numbered r (length y)) refl (λ n place. (refl, refl))

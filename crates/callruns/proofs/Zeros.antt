@@ -19,6 +19,7 @@ use Rattle.rules.specs.Steps.{emitStep, flushStep, dataCountAnswer}
 use Rattle.rules.specs.Receive.{receiveStep}
 use Rattle.bytecells.specs.Octets.{cellsOf, odd}
 use Rattle.bytecells.specs.ByteSteps.{startBytes, listenBytes, emitBytes, flushBytes, receiveBytes, fillBytes, unfillBytes}
+use Rattle.bytelamp.specs.ByteLamp.{shortList, shortLights, pilotsBytes, lampBytes}
 use Rattle.bytemodulate.specs.ByteSymbols.{modulateBytes}
 use Rattle.exclusion.specs.Trial.{trialOfNumbers}
 use Rattle.reasons.specs.Reasons.{whyAnswer}
@@ -26,9 +27,9 @@ use Rattle.answerbytes.specs.declared.Told.{Told}
 use Rattle.answerbytes.specs.Layout.{short, written}
 use Rattle.answers.specs.Answer.{toldVerdict, toldRole, toldWhy, toldCount, toldStart, toldListen, toldSend, toldReceive}
 use Rattle.runs.specs.Run.{isStarted, isListening, isSent, isReceived}
-use Rattle.headend.specs.Calls.{Said, says, StoreSaid, saysStore, StepSaid, saysStep, NumbersSaid, saysNumbers, FillSaid, saysFill, fillTold, startTold, listenTold, sendTold, receiveTold, modulateTold, judgeCall, tryCall, roleCall, whyCall, countCall, startCall, listenCall, emitCall, flushCall, receiveCall, fillCall, unfillCall, modulateCall}
+use Rattle.headend.specs.Calls.{Said, says, StoreSaid, saysStore, StepSaid, saysStep, NumbersSaid, saysNumbers, FillSaid, saysFill, fillTold, listTold, LampSaid, saysLamp, lampTold, startTold, listenTold, sendTold, receiveTold, modulateTold, judgeCall, tryCall, roleCall, whyCall, countCall, startCall, listenCall, emitCall, flushCall, receiveCall, fillCall, unfillCall, pilotsCall, lampCall, modulateCall}
 use Rattle.callruns.specs.Host.{isAccepted, isRole, isReasoned, isCount, isModulated, ZeroIsAccepted}
-use Rattle.callruns.proofs.Numbers.{verdict-zero, trial-zero, role-zero, why-zero, count-zero, start-zero, listen-zero, send-zero, hear-zero, fill-zero, unfill-zero}
+use Rattle.callruns.proofs.Numbers.{verdict-zero, trial-zero, role-zero, why-zero, count-zero, start-zero, listen-zero, send-zero, hear-zero, fill-zero, unfill-zero, pilots-zero, lamp-zero}
 use Rattle.callruns.proofs.Modulated.{modulate-bytes}
 
 -- the number of x where b holds, 21, and else of y
@@ -77,13 +78,21 @@ module _ (d : Device) (s : List ℕ) where
   unfolding unfillBytes
   unfill-bytes w j ds start stream = by-test (odd ds) (λ q. rw q refl) (λ q. rw q (unfill-zero d s w j (cellsOf ds) start stream))
 
+  pilots-bytes : (l : List ℕ) → eqb (toldCount (pilotsBytes d s l .answer) .number) 0 ≡ isCount (pilotsBytes d s l .answer)
+  unfolding pilotsBytes
+  pilots-bytes l = by-test (shortList l) (λ q. rw q refl) (λ q. rw q (pilots-zero d s))
+
+  pub lamp-bytes : (y r l : List ℕ) → eqb (toldCount (lampBytes d s y r l .answer) .number) 0 ≡ isCount (lampBytes d s y r l .answer)
+  unfolding lampBytes
+  lamp-bytes y r l = by-test (odd y || shortLights l) (λ q. rw q refl) (λ q. rw q (lamp-zero d s r (cellsOf y)))
+
   -- ---- the calls
 
   told-zero : (a : List ℕ) (t : Told) (ok : Bool) → eqb (t .number) 0 ≡ ok → (pick (short a) (says 21 a) (says (t .number) (written a t)) .number ≡ 0) ↔ ((short a ≡ false) × (ok ≡ true))
   told-zero a t ok h = zero (λ (x : Said). x .number) (short a) (says 21 a) (says (t .number) (written a t)) ok refl h
 
   pub zero-is-accepted : ZeroIsAccepted d s
-  unfolding judgeCall tryCall roleCall whyCall countCall startCall listenCall emitCall flushCall receiveCall fillCall unfillCall modulateCall
+  unfolding judgeCall tryCall roleCall whyCall countCall startCall listenCall emitCall flushCall receiveCall fillCall unfillCall pilotsCall lampCall modulateCall
   zero-is-accepted = record {
     judged = λ a. told-zero a (toldVerdict (verdict d s)) (isAccepted (verdict d s)) (verdict-zero d s);
     tried = λ first last a. told-zero a (toldVerdict (trialOfNumbers d s first last)) (isAccepted (trialOfNumbers d s first last)) (trial-zero d s first last);
@@ -104,6 +113,10 @@ module _ (d : Device) (s : List ℕ) where
         zero (λ (x : FillSaid). x .said .number) (short a) (saysFill 21 room a) (fillTold (fillBytes d s w j stream start room) a) (isCount (fillBytes d s w j stream start room .answer)) refl (fill-bytes w j stream start room);
     unfilled = λ w j ds start stream a.
         zero (λ (x : FillSaid). x .said .number) (short a) (saysFill 21 stream a) (fillTold (unfillBytes d s w j ds start stream) a) (isCount (unfillBytes d s w j ds start stream .answer)) refl (unfill-bytes w j ds start stream);
+    listed = λ l a.
+        zero (λ (x : FillSaid). x .said .number) (short a) (saysFill 21 l a) (listTold (pilotsBytes d s l) a) (isCount (pilotsBytes d s l .answer)) refl (pilots-bytes l);
+    heard = λ y r l a.
+        zero (λ (x : LampSaid). x .said .number) (short a) (saysLamp 21 r l a) (lampTold (lampBytes d s y r l) a) (isCount (lampBytes d s y r l .answer)) refl (lamp-bytes y r l);
     modulated = λ y loads minus l a.
         zero (λ (x : NumbersSaid). x .said .number) (short a) (saysNumbers 21 l a) (modulateTold (modulateBytes y loads minus d l) a) (isModulated (modulateBytes y loads minus d l .answer)) refl (modulate-bytes y loads minus d l);
   }

@@ -1,4 +1,4 @@
--- What a C host reads from a call's number and from the value in its answer buffer (requests 01, 04, 05, 07 and 08). Statements only. Assumes nothing.
+-- What a C host reads from a call's number and from the value in its answer buffer (requests 01, 04, 05, 07, 08 and 10). Statements only. Assumes nothing.
 use Prim.Native.Nat.{ℕ, _+_, _*_}
 use mathlib.Core.Path.{_≡_}
 use mathlib.Core.Logic.{_↔_}
@@ -23,13 +23,14 @@ use Rattle.rules.specs.Grounds.{verdict}
 use Rattle.rules.specs.Answers.{roleAnswer}
 use Rattle.rules.specs.Steps.{dataCountAnswer}
 use Rattle.bytecells.specs.ByteSteps.{startBytes, listenBytes, emitBytes, flushBytes, receiveBytes, fillBytes, unfillBytes}
+use Rattle.bytelamp.specs.ByteLamp.{pilotsBytes, lampBytes}
 use Rattle.bytemodulate.specs.ByteSymbols.{modulateBytes}
 use Rattle.answerbytes.specs.Layout.{short}
 use Rattle.runs.specs.Run.{isStarted, isListening, isSent, isReceived}
 use Rattle.exclusion.specs.Trial.{trialOfNumbers}
 use Rattle.rules.specs.declared.WhyAnswer.{WhyAnswer}
 use Rattle.reasons.specs.Reasons.{whyAnswer, named}
-use Rattle.headend.specs.Calls.{judgeCall, tryCall, roleCall, whyCall, countCall, startCall, listenCall, emitCall, flushCall, receiveCall, fillCall, unfillCall, modulateCall}
+use Rattle.headend.specs.Calls.{judgeCall, tryCall, roleCall, whyCall, countCall, startCall, listenCall, emitCall, flushCall, receiveCall, fillCall, unfillCall, pilotsCall, lampCall, modulateCall}
 
 -- no ground refuses
 abbrev pub isAccepted : Verdict → Bool
@@ -83,6 +84,8 @@ pub record ZeroIsAccepted (d : Device) (s : List ℕ) : Type 0 where
       → (fillCall d s w j stream start room a .said .number ≡ 0) ↔ ((short a ≡ false) × (isCount (fillBytes d s w j stream start room .answer) ≡ true))
   pub unfilled : (w : List ℕ) (j : ℕ) (ds : List ℕ) (start : ℕ) (stream a : List ℕ)
       → (unfillCall d s w j ds start stream a .said .number ≡ 0) ↔ ((short a ≡ false) × (isCount (unfillBytes d s w j ds start stream .answer) ≡ true))
+  pub listed : (l a : List ℕ) → (pilotsCall d s l a .said .number ≡ 0) ↔ ((short a ≡ false) × (isCount (pilotsBytes d s l .answer) ≡ true))
+  pub heard : (y r l a : List ℕ) → (lampCall d s y r l a .said .number ≡ 0) ↔ ((short a ≡ false) × (isCount (lampBytes d s y r l .answer) ≡ true))
   -- this one is given no plan
   pub modulated : (y loads minus : List ℕ) (l : List Float) (a : List ℕ)
       → (modulateCall d y loads minus l a .said .number ≡ 0) ↔ ((short a ≡ false) × (isModulated (modulateBytes y loads minus d l .answer) ≡ true))

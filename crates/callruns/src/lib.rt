@@ -17,7 +17,7 @@ ghost use Rattle.callruns.specs.Host.{ZeroIsAccepted, ZeroIsWarming};
 ghost use Rattle.callruns.specs.CallEntries.{callEntries, AnyBuffer};
 ghost use Rattle.callruns.specs.WhyRead.{WhyIsRead};
 
-// Any bytes as a plan: each of the thirteen calls returns 0 exactly if nothing refuses.
+// Any bytes as a plan: each of the fifteen calls returns 0 exactly if nothing refuses.
 pub fn zero_is_accepted()
     ensures { λ _. ⌜ ((s : List ℕ) → ZeroIsAccepted khz50 s) ⌝ }
 {}
