@@ -85,7 +85,9 @@ module _ (cap : ℕ) (ks : List ℕ) where
   unfolding lit litAfresh
   lights-afresh pos ys i h =
       let k : ℕ = getD ks i 0 in
-      rw (first-count ys, pilot-count ys i h, every-row k cap ys) (covers cap pos (inRow ys k) (length ys) (in-row-le ys k))
+      let n : ℕ = inRow ys k in
+      let counted : lit (lampRecord cap ks ys) i ≡ (ltb 0 (length ys) && (leb cap n || leb (length ys) n)) = rw (first-count ys, pilot-count ys i h) (covers cap pos n (length ys) (in-row-le ys k)) in
+      counted ∙ ap (λ (b : Bool). ltb 0 (length ys) && b) (sym (every-row k cap ys))
 
   -- ---- 28 never refuses it
 
