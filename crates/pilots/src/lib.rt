@@ -3,10 +3,11 @@
 // without a pilot is passed over.
 ghost use Prim.Native.Nat.{ℕ, _+_, _%_, _≤_};
 ghost use mathlib.Core.Path.{_≡_};
+ghost use mathlib.Core.Bool.{false};
 ghost use mathlib.Core.List.{List};
 ghost use lib.Dec.{eqb};
 ghost use lib.ListN.{length};
-ghost use Rattle.counting.specs.Search.{bit, count};
+ghost use Rattle.counting.specs.Search.{count};
 ghost use Rattle.rules.specs.declared.Finding.the-variants.{Fine};
 ghost use Rattle.rules.specs.Device.{khz50};
 ghost use Rattle.rules.specs.Fits.{Fits, capacity};
@@ -36,25 +37,29 @@ pub struct PilotAnswer {
     pub list: [u16; PILOTS],
 }
 
-// 1 for the mark of a continuous pilot.
-fn one_if_pilot(x: u16) -> u16
-    ensures { λ r. ⌜ (r ≡ bit (eqb x continuousMark)) × (r ≤ 1) ⌝ }
+// 1 where a pilot was met, or the mark is a pilot's; 0 only where neither is so.
+fn met(h: u16, x: u16) -> u16
+    ensures { λ r. ⌜ (r ≡ 0 → (h ≡ 0) × (eqb x continuousMark ≡ false)) ⌝ }
 {
-    if x == CONTINUOUS { 1 } else { 0 }
+    if x == CONTINUOUS {
+        return 1;
+    }
+    h
 }
 
-// How many pilots stand in the block from k on.
-fn pilots_in(marks: &[u16], k: usize) -> u16
+// Whether a pilot may stand in the block from k on: false only where none does. The compiler tests the whole block at once.
+fn has_pilot(marks: &[u16], k: usize) -> bool
     requires { ⌜ (k ≤ capacity) × (k + 16 ≤ length (now marks)) ⌝ }
-    ensures { λ r. ⌜ r ≡ count (λ i. isMarked (now (marks .entry)) (k + i)) 16 ⌝ }
+    ensures { λ r. ⌜ (r ≡ false → count (λ i. isMarked (now (marks .entry)) (k + i)) 16 ≡ 0) ⌝ }
 {
-    let mut n: u16 = 0;
+    let mut h: u16 = 0;
     let mut i: usize = 0;
     while i < BLOCK {
-        n = n + one_if_pilot(marks[k + i]);
+        let next = met(h, marks[k + i]);
+        h = next;
         i = i + 1;
     }
-    n
+    h != 0
 }
 
 // Lists subcarrier k behind the n that are listed, if it is a pilot, and says how many there are then.
@@ -74,7 +79,7 @@ fn list_block(marks: &[u16], k: usize, n: usize, list: &mut [u16; PILOTS]) -> us
     requires { ⌜ (k + 16 ≤ capacity) × (k + 16 ≤ length (now marks)) × (length (markedBelow (now marks) (k + 16)) ≤ pilotsMost) × Listed (now marks) k n (now list) ⌝ }
     ensures { λ r. ⌜ Listed (now (marks .entry)) (k + 16) r (now (list .exit)) ⌝ }
 {
-    if pilots_in(marks, k) == 0 {
+    if !has_pilot(marks, k) {
         return n;
     }
     let mut m = n;

@@ -1,9 +1,10 @@
 -- `pilots::list_block` meets its contract. Assumes nothing.
 use borrow.Author.Needs.{needs}
 use Prim.Native.Nat.{_+_, _-_, _≤_}
-use mathlib.Core.Path.{_≡_, sym, _∙_}
+use mathlib.Core.Path.{_≡_}
 use native.Mathlib.Nat.{add-zero}
 use native.Mathlib.Omega.{arith}
+use borrow.Author.Tests.{not-true}
 use Rattle.pilots.specs.Marked.{Listed}
 use Rattle.pilots.proofs.Listing.{fewer-below, listed-over}
 use Rattle.pilots.proofs.list_block.Statement.{statement}
@@ -15,13 +16,13 @@ Inv-loop marks k n list₀ m₀ i₀ list m i = (i ≤ 16) × Listed marks (k + 
 abbrev μ-loop : tie.MeasureT-loop
 μ-loop marks k n list₀ m₀ i₀ list m i = 16 - i
 
-pilots-in-requires : tie.Need-pilots-in-requires Inv-loop μ-loop
-pilots-in-requires c κs = search needs
+has-pilot-requires : tie.Need-has-pilot-requires Inv-loop μ-loop
+has-pilot-requires c κs = search needs
 
 returns : tie.Need-returns Inv-loop μ-loop
 returns c =
     let s = c .before .before .before in
-    listed-over (s .args .marks .now) (s .args .k) (s .args .n) (s .args .list .now) (sym (c .before .pilots-in .ensures) ∙ c .if1 .taken) (s .pre .3)
+    listed-over (s .args .marks .now) (s .args .k) (s .args .n) (s .args .list .now) (c .before .has-pilot .ensures (not-true (c .before .has-pilot .result) (c .if1 .taken))) (s .pre .3)
 
 loop-holds : tie.Need-loop-holds Inv-loop μ-loop
 loop-holds c = let s = c .before .before .before in (omega arith, rw (add-zero (s .args .k)) (s .pre .3))
@@ -61,7 +62,7 @@ list-block-spec =
     (tie.spec
     Inv-loop
     μ-loop
-    pilots-in-requires
+    has-pilot-requires
     returns
     loop-holds
     add-list-one
