@@ -31,5 +31,6 @@ static uint32_t receive(const uint8_t *plan, size_t plan_len, const uint8_t *pro
 
 extern const struct calls before;
 
-const struct calls before = {"before", "a library of version 3", 116126, before_judge, before_try, NULL, before_data_count,
-                             before_fresh_emitter, before_fresh_receiver, emit, before_flush, receive, NULL, NULL, before_modulate};
+const struct calls before = {"before", "a library of version 3", 116126, before_judge, before_try, NULL, before_data_count, NULL,
+                             before_fresh_emitter, before_fresh_receiver, emit, before_flush, receive, NULL, NULL, NULL,
+                             before_modulate};

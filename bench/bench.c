@@ -1,6 +1,6 @@
 /* Times the library beside the two C implementations, all in one run: in each round every implementation makes the same small batch of
  * calls, in turn, and what they leave is compared byte for byte. Each line gives the median round of each, in microseconds a call.
- * With bench/before.c, a library of version 3 runs too: it takes no profile, and has no why, no fill and no unfill.
+ * With bench/before.c, a library of version 3 runs too: it takes no profile, and has no why, pilots, fill, unfill or lamp.
  *
  *     bench PLANS [ROUNDS]
  *
@@ -19,7 +19,8 @@ enum { TURNS = 3 };                                  /* turns of sixteen trunks,
 enum { POOL = 8, MOST_ROUNDS = 4096 };
 enum { RUN = 64 };                                   /* subcarriers of one load, where loads come in runs */
 enum { STREAM = 65536, SYMBOL_BITS = 52430 };        /* bytes of a stream, and the bits that a symbol takes at most */
-enum call { JUDGE, TRY, WHY, EMIT, FLUSH, RECEIVE, MODULATE, FILL, UNFILL };
+enum { LIST = 256, LIGHTS = 128, RECORD = 129 };     /* bytes of a list of pilots, of the lights, and of a lamp's record at most */
+enum call { JUDGE, TRY, WHY, EMIT, FLUSH, RECEIVE, MODULATE, FILL, UNFILL, PILOTS, LAMP };
 
 extern const struct calls library, best_gcc, best_clang, plain_gcc, plain_clang, before;
 static const struct calls *const ALL[] = {
@@ -47,6 +48,7 @@ struct bench {
     uint8_t answer[TURNS * TRUNKS][ANSWER];
     uint32_t number[TURNS * TRUNKS];
     uint8_t stream[STREAM]; /* into which bits go back */
+    uint8_t record[RECORD]; /* of the lamp */
     float numbers[NUMBERS], left[BATCH][NUMBERS]; /* the modulator symbol of the timed calls, and that of each call */
     double time[MOST_ROUNDS];
 };
@@ -59,6 +61,8 @@ static uint8_t fitting[BATCH][DATA];                 /* data of each call of a b
 static int mixed;                                    /* whether the profile is */
 static size_t plan_len;
 static uint32_t counts[PHASES];
+static uint8_t pilots[LIST];
+static uint32_t pilots_count;
 static uint32_t tried_first, tried_last; /* the range that is tried */
 
 static void fail(const char *what)
@@ -147,6 +151,14 @@ static uint32_t modulate(const struct calls *c, struct bench *b, int i, float *n
     return c->modulate(arriving[i], SYMBOL, loads, SUBCARRIERS, minus, SUBCARRIERS, numbers, NUMBERS, b->answer[i], ANSWER);
 }
 
+/* In one symbol of four a pilot loses its mark. */
+static void lose_mark(uint8_t *symbol)
+{
+    uint32_t i = chance() % (4 * pilots_count);
+    if (i < pilots_count)
+        memset(symbol + 2 * (pilots[2 * i] << 8 | pilots[2 * i + 1]), 0, 2);
+}
+
 /* A symbol filled, or its bits taken back, each from where the last one's ended. */
 static void move_bits(const struct calls *c, struct bench *b, enum call call, struct trunk *t, int i)
 {
@@ -185,6 +197,14 @@ static void make(const struct calls *c, struct bench *b, enum call call, struct 
     }
     if (call == FILL || call == UNFILL) {
         move_bits(c, b, call, t, i);
+        return;
+    }
+    if (call == PILOTS) {
+        b->number[i] = c->pilots(plan, plan_len, out, LIST, answer, ANSWER);
+        return;
+    }
+    if (call == LAMP) {
+        b->number[i] = c->lamp(plan, plan_len, arriving[i], SYMBOL, b->record, 1 + pilots_count, out, LIGHTS, answer, ANSWER);
         return;
     }
     if (call == EMIT)
@@ -234,9 +254,10 @@ static void start(const struct calls *c, struct bench *b, enum call call, int tr
         t->start = 3;
     }
     memset(b->stream, 0x5A, STREAM);
+    memset(b->record, 0, RECORD);
 }
 
-/* The symbols that the receivers or the modulators get next: all trunks the same ones. */
+/* The symbols that the receivers, the modulators or the lamps get next: all trunks the same ones. */
 static void arrive(enum call call, int trunks)
 {
     int all = trunks == 1 ? BATCH : TURNS * trunks;
@@ -248,6 +269,8 @@ static void arrive(enum call call, int trunks)
         memcpy(arriving[i], feed->out[i - i % trunks], SYMBOL);
         if (call == MODULATE)
             fit_loads(arriving[i]);
+        if (call == LAMP)
+            lose_mark(arriving[i]);
     }
 }
 
@@ -255,12 +278,14 @@ static int has(int n, enum call call)
 {
     const struct calls *c = ALL[n];
     return (call != TRY || c->try != NULL) && (call != WHY || c->why != NULL) && (call != MODULATE || c->modulate != NULL) &&
-           (call != FILL || c->fill != NULL) && (call != UNFILL || c->unfill != NULL);
+           (call != FILL || c->fill != NULL) && (call != UNFILL || c->unfill != NULL) && (call != PILOTS || c->pilots != NULL) &&
+           (call != LAMP || c->lamp != NULL);
 }
 
 static void compare(enum call call, int trunks)
 {
-    int all = trunks == 1 ? BATCH : TURNS * trunks, cells = call == EMIT || call == FLUSH || call == RECEIVE || call == FILL;
+    int all = trunks == 1 ? BATCH : TURNS * trunks;
+    int cells = call == EMIT || call == FLUSH || call == RECEIVE || call == FILL || call == PILOTS || call == LAMP;
     for (int n = 1; n < IMPLEMENTATIONS && has(n, call); n++) {
         const struct bench *a = bench[0], *b = bench[n];
         if (memcmp(a->number, b->number, (size_t)all * sizeof a->number[0]) != 0)
@@ -268,7 +293,9 @@ static void compare(enum call call, int trunks)
         if (memcmp(a->answer, b->answer, (size_t)all * ANSWER) != 0)
             fail("the answers differ");
         if (cells && memcmp(a->out, b->out, (size_t)all * SYMBOL) != 0)
-            fail("the symbols or the data differ");
+            fail("the symbols, the data, the lists or the lights differ");
+        if (call == LAMP && memcmp(a->record, b->record, RECORD) != 0)
+            fail("the records differ");
         if (call == MODULATE && memcmp(a->left, b->left, sizeof a->left) != 0)
             fail("the modulator symbols differ");
         if (call == UNFILL && memcmp(a->stream, b->stream, STREAM) != 0)
@@ -298,13 +325,13 @@ static int rising(const void *a, const void *b)
 static void line(const char *name, const char *what, enum call call, int trunks, int rounds)
 {
     int settle = 40 / (trunks == 1 ? BATCH : TURNS) + 1; /* batches until no emitter or receiver is warming */
-    int steps = call == EMIT || call == FLUSH || call == RECEIVE;
+    int steps = call == EMIT || call == FLUSH || call == RECEIVE, fed = call == RECEIVE || call == MODULATE || call == LAMP;
     for (int n = 0; n < IMPLEMENTATIONS; n++)
         start(ALL[n], bench[n], call, trunks);
-    if (call == RECEIVE || call == MODULATE)
+    if (fed)
         start(&best_gcc, feed, EMIT, 1);
     for (int round = -settle; round < rounds; round++) {
-        if (call == RECEIVE || call == MODULATE)
+        if (fed)
             arrive(call, trunks);
         if ((call == EMIT && mixed) || call == UNFILL)
             fit_data(bench[0]->trunk[0].phase);
@@ -388,6 +415,19 @@ static struct bench *make_bench(const struct calls *c)
     return b;
 }
 
+/* The lines of a lamp: a plan's pilots listed, and symbols heard. */
+static void time_lamps(const char *folder, const char *file, uint32_t depth, const char *name, int rounds)
+{
+    uint8_t answer[ANSWER];
+    load(folder, file, depth);
+    if (best_gcc.pilots(plan, plan_len, pilots, LIST, answer, ANSWER) != 0)
+        fail("a list is refused");
+    pilots_count = get(answer + 12);
+    set_profile(0);
+    line(name, "pilots", PILOTS, 1, rounds);
+    line(name, "lamp", LAMP, 1, rounds);
+}
+
 int main(int words, char **word)
 {
     static const struct { const char *name, *file; uint32_t depth, first, last; } plans[] = {
@@ -426,5 +466,7 @@ int main(int words, char **word)
     line("largest, M 32", "unfill, mixed", UNFILL, 1, rounds);
     line("largest, M 32", "emit, mixed", EMIT, 1, rounds);
     line("largest, M 32", "receive, mixed", RECEIVE, 1, rounds);
+    time_lamps(word[1], "plan-a.plan", 0, "Plan A", rounds);
+    time_lamps(word[1], "largest.plan", 32, "largest, M 32", rounds);
     return 0;
 }

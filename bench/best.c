@@ -1,8 +1,8 @@
 /* The head end's calls in the fastest C we could write. Excluded and taken subcarriers are sets of 4,096 bits, so that a range costs the
  * same however long it is; cells stay as they are in memory, high byte first; the stretches of neighbouring subcarriers with a rank are
  * copied whole; rows are turned into columns eight by eight; placeholders are found by comparing sixteen cells at a time; a store is moved
- * down as a whole; loads are tested sixteen at a time and bits move four cells at a time; the points of all loads stand in one table, and
- * sixteen subcarriers at a time are tested and looked up there. */
+ * down as a whole; loads are tested sixteen at a time and bits move four cells at a time; a lamp's counts go up eight at a time; the
+ * points of all loads stand in one table, and sixteen subcarriers at a time are tested and looked up there. */
 #include "best.h"
 
 #include <string.h>
@@ -903,6 +903,49 @@ static inline int is_distance(uint32_t d)
     return d < 64 && (all >> d & 1);
 }
 
+/* --- pilots --- */
+
+enum { ALL_PILOTS = 8 + PILOTS };
+
+/* The continuous pilots of an accepted plan, rising: active subcarriers without a rank, but for the PLC. The answer is how many. */
+static uint32_t sort_pilots(const struct plan *s, uint16_t *pilot)
+{
+    uint64_t set[WORDS + 1] = {0};
+    uint32_t n = 0, l = s->l;
+    for (uint32_t j = 0; j < WORDS; j++)
+        set[j] = s->taken[j] & ~s->excluded[j];
+    set[l >> 6] &= ~((uint64_t)255 << (l & 63));
+    set[(l >> 6) + 1] &= ~((uint64_t)255 >> 1 >> (63 - (l & 63)));
+    for (uint32_t j = 0; j < WORDS; j++)
+        for (uint64_t w = set[j]; w != 0; w &= w - 1)
+            pilot[n++] = (uint16_t)(64 * j + (uint32_t)__builtin_ctzll(w));
+    return n;
+}
+
+/* The same: the predefined ones are put between those of the chain, which is enough if it names them in rising order. */
+static inline uint32_t find_pilots(const struct plan *s, uint16_t *pilot)
+{
+    static const uint8_t distances[4] = {47, 35, 24, 15};
+    uint16_t own[9], falls = 0, before = 0;
+    uint32_t n = 0, j = 0;
+    for (int i = 0; i < 4; i++) {
+        own[i] = (uint16_t)(s->l - distances[i]);
+        own[7 - i] = (uint16_t)(s->l + 7 + distances[i]);
+    }
+    own[8] = SUBCARRIERS; /* behind all others */
+    for (uint32_t i = 0; i < s->pilots; i++) {
+        uint16_t k = s->pilot[i];
+        while (own[j] < k)
+            pilot[n++] = own[j++];
+        pilot[n++] = k;
+        falls |= before > k;
+        before = k;
+    }
+    while (j < 8)
+        pilot[n++] = own[j++];
+    return falls ? sort_pilots(s, pilot) : n;
+}
+
 /* --- the calls --- */
 
 static inline void put(uint8_t *at, uint32_t x)
@@ -1001,6 +1044,22 @@ uint32_t best_data_count(const uint8_t *plan, size_t plan_len, uint32_t phase, u
     if (g == 0)
         count = s.n - find_holders(&s, seg, find_segments(&s, seg), phase, holder);
     return say(answer, answer_len, g, g == 0 ? 0 : s.place, 0, 0, count);
+}
+
+uint32_t best_pilots(const uint8_t *plan, size_t plan_len, uint8_t *pilots, size_t pilots_len, uint8_t *answer, size_t answer_len)
+{
+    struct plan s;
+    uint16_t pilot[ALL_PILOTS] = {0};
+    if (answer_len < ANSWER || pilots_len < sizeof pilot)
+        return say(answer, answer_len, 21, 0, 0, 0, 0);
+    uint32_t g = judge(&s, plan, plan_len);
+    if (g != 0)
+        return say(answer, answer_len, g, s.place, 0, 0, 0);
+    uint32_t n = find_pilots(&s, pilot);
+    for (int i = 0; i < ALL_PILOTS; i++)
+        pilot[i] = (uint16_t)CELL(pilot[i]);
+    memcpy(pilots, pilot, sizeof pilot);
+    return say(answer, answer_len, 0, 0, 0, 0, n);
 }
 
 /* Grounds 1 to 16 of a plan, the phase and the symbols heard. */
@@ -1389,6 +1448,85 @@ uint32_t best_unfill(const uint8_t *plan, size_t plan_len, const uint8_t *profil
             at[bytes - 1] = (uint8_t)((to[bytes - 1] & ((1u << used) - 1)) | (last & ~((1u << used) - 1)));
     }
     return say(answer, answer_len, 0, 0, 0, 0, bits);
+}
+
+/* --- the pilot lamp --- */
+
+/* Eight counts stand in the bytes of a word. */
+enum { CAP = 128 };
+#define IN_EACH ((uint64_t)0x0101010101010101)
+
+/* Ground 28, but for the length. Of eight counts every other one is taken from 256 and the first: bit 8 stays if it is not above the
+ * first. */
+static inline int wrong_counts(const uint8_t *record, uint32_t n)
+{
+    const uint64_t others = (uint64_t)0x00ff00ff00ff00ff, first = (256u + record[0]) * (uint64_t)0x0001000100010001;
+    uint64_t right = ~(uint64_t)0;
+    uint32_t i = 0, wrong = record[0] > CAP;
+    for (; i + 8 <= n; i += 8) {
+        uint64_t w = eight_bytes(record + 1 + i);
+        right &= (first - (w & others)) & (first - (w >> 8 & others));
+    }
+    for (; i < n; i++)
+        wrong |= record[1 + i] > record[0];
+    return wrong || (~right & (uint64_t)0x0100010001000100) != 0;
+}
+
+/* Of eight pilots a 1 in the byte of each that holds the mark. */
+static inline uint64_t held_by(const cell *symbol, const uint16_t *pilot)
+{
+    uint64_t held = 0;
+    for (int i = 0; i < 8; i++)
+        held |= (uint64_t)(symbol[pilot[i]] == CONTINUOUS) << 8 * i;
+    return held;
+}
+
+/* Eight counts after a symbol. Of 1 to 129 only 129 has both its highest and its lowest bit. */
+static inline uint64_t advance(uint64_t counts, uint64_t held)
+{
+    counts += IN_EACH;
+    counts -= counts >> 7 & counts & IN_EACH;
+    return counts & ((held << 8) - held);
+}
+
+/* A 1 in each byte that is the first count. */
+static inline uint64_t lit(uint64_t counts, uint64_t first)
+{
+    uint64_t apart = counts ^ first * IN_EACH;
+    return ~(((apart & 127 * IN_EACH) + 127 * IN_EACH) | apart) >> 7 & IN_EACH;
+}
+
+uint32_t best_lamp(const uint8_t *plan, size_t plan_len, const uint8_t *symbol, size_t symbol_len, uint8_t *record, size_t record_len,
+                   uint8_t *lights, size_t lights_len, uint8_t *answer, size_t answer_len)
+{
+    struct plan s;
+    uint16_t pilot[ALL_PILOTS];
+    const cell *x = (const cell *)symbol;
+    if (answer_len < ANSWER || symbol_len % 2 != 0 || lights_len < ALL_PILOTS)
+        return say(answer, answer_len, 21, 0, 0, 0, 0);
+    uint32_t g = judge(&s, plan, plan_len), i = 0;
+    if (g != 0)
+        return say(answer, answer_len, g, s.place, 0, 0, 0);
+    uint32_t n = 8 + s.pilots;
+    if (record_len != n + 1 || wrong_counts(record, n))
+        return say(answer, answer_len, 28, 0, 0, 0, 0);
+    if (symbol_len != 2 * SUBCARRIERS)
+        return say(answer, answer_len, 17, 0, 0, 0, 0);
+    find_pilots(&s, pilot);
+    uint8_t first = record[0] < CAP ? record[0] + 1 : CAP;
+    record[0] = first;
+    memset(lights, 0, ALL_PILOTS);
+    for (; i + 8 <= n; i += 8) {
+        uint64_t counts = advance(eight_bytes(record + 1 + i), held_by(x, pilot + i));
+        put_eight(record + 1 + i, counts);
+        put_eight(lights + i, lit(counts, first));
+    }
+    for (; i < n; i++) {
+        uint8_t count = record[1 + i], held = x[pilot[i]] == CONTINUOUS;
+        record[1 + i] = (uint8_t)((count + (count < CAP)) & -held);
+        lights[i] = record[1 + i] == first;
+    }
+    return say(answer, answer_len, 0, 0, 0, 0, n);
 }
 
 /* --- the modulator --- */

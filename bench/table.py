@@ -1,7 +1,7 @@
 #!/usr/bin/env python3
 """Makes one table of several runs of the benchmark: of each line the median over the runs and, of the library and of
 best C, the lowest run, in microseconds a call; and how far the ratios spread. Of best and of plain C the compiler that did
-better in a run is taken. Where a library of version 2 ran beside them, its time and the ratio to it stand in columns of their own.
+better in a run is taken. Where a library of version 3 ran beside them, its time and the ratio to it stand in columns of their own.
 
     python3 bench/table.py RUN.tsv...
 """
@@ -61,7 +61,7 @@ def main():
             '%.2f' % mid(b for b, _ in plain), plain[0][1],
             '%.2f' % mid(to_best), '%.2f..%.2f' % (min(to_best), max(to_best)),
             '%.2f' % mid(to_plain), '%.2f..%.2f' % (min(to_plain), max(to_plain)), to_before(of),
-            '' if line[1] in ('judge', 'try', 'why') else 'ok' if mid(library) <= REAL_TIME else 'over'))
+            '' if line[1] in ('judge', 'try', 'why', 'pilots') else 'ok' if mid(library) <= REAL_TIME else 'over'))
 
 
 if __name__ == '__main__':

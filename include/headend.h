@@ -2,8 +2,9 @@
  *
  * Every call returns the number of the ground that refuses it, 0 if none, and writes the rest of its answer into the first
  * HEADEND_ANSWER_BYTES bytes of `answer`, four numbers of four bytes each, high byte first (HEADEND_PLACE and so on say where).
- * A refused call writes its answer and changes no store, symbol, data, stream or modulator symbol. Its answer gives the state back as it
- * was passed in (0 where none was passed). With a shorter `answer` a call returns 21 and writes nothing.
+ * A refused call writes its answer and changes no store, symbol, data, stream, lamp's record, list of pilots, lights or modulator symbol.
+ * Its answer gives the state back as it was passed in (0 where none was passed). With a shorter `answer` a call returns 21 and writes
+ * nothing.
  *
  * A cell is two bytes, high byte first. A plan and each buffer pass as a pointer and a length in bytes, a modulator symbol as a pointer
  * and a number of floats. What is relied on: each pointer is good for the length passed with it (with length 0 it may be NULL), and a
@@ -22,11 +23,12 @@
 extern "C" {
 #endif
 
-/* Grows by one whenever a call takes, answers or writes something else for the same bytes, or a name below has another value or goes.
- * A name, a call or a helper that is added does not count. 1 was the interface as it came, 2 counts the widths, 3 keeps one cell in a
- * store for each symbol of delay and has no row, 4 gives headend_emit and headend_receive a load profile after the plan, and has
- * headend_fill and headend_unfill. Headers from before this name are of 1 or of 2. */
-#define HEADEND_VERSION 4
+/* Grows by one whenever a call takes, answers or writes something else for the same bytes, or a name below has another value or goes;
+ * from 5 on also when a call is added. A name or a helper that is added does not count. 1 was the interface as it came, 2 counts the
+ * widths, 3 keeps one cell in a store for each symbol of delay and has no row, 4 gives headend_emit and headend_receive a load profile
+ * after the plan, and has headend_fill and headend_unfill, 5 has headend_pilots and headend_lamp; all other calls are as in 4. Headers
+ * from before this name are of 1 or of 2. */
+#define HEADEND_VERSION 5
 
 /* The number that a call returns is not to be ignored: gcc and clang warn. */
 #ifdef __GNUC__
@@ -40,8 +42,8 @@ extern "C" {
 #define HEADEND_PLACE 0  /* the place of a refusal; of headend_why else a record or a distance */
 #define HEADEND_PHASE 4  /* the state of the next step: phase (of headend_why that of a scattered pilot), */
 #define HEADEND_HEARD 8  /* and of a receiver the symbols heard, up to M - 1 */
-#define HEADEND_VALUE 12 /* N_I, N_D, the number of data cells handed out or of bits, a role, of headend_why a role with its reason, or the
-                            subcarrier of a refusal by 22 or 23 */
+#define HEADEND_VALUE 12 /* N_I, N_D, the number of data cells handed out, of bits or of pilots, a role, of headend_why a role with its
+                            reason, or the subcarrier of a refusal by 22 or 23 */
 
 /* The roles of a subcarrier, in the order in which the first that applies is taken. */
 #define HEADEND_EXCLUDED 1
@@ -75,10 +77,18 @@ extern "C" {
 #define HEADEND_NUMBERS 8192u        /* a modulator symbol: two floats for each subcarrier */
 #define HEADEND_DATA_BYTES_MAX 7490u /* more data cells than N_I no symbol has */
 #define HEADEND_PROFILE_BYTES 4096u  /* a load profile: one load for each subcarrier, 0, 4 or 6 to 14 */
+#define HEADEND_PILOTS 128u          /* the most continuous pilots that an accepted plan has: 8 and 120 */
+#define HEADEND_PILOTS_BYTES 256u    /* a list of pilots: two bytes each, high byte first */
+#define HEADEND_LIGHTS_BYTES 128u    /* the lights of a lamp: one for each pilot */
 #define HEADEND_STACK_BYTES 131072u  /* some 65,000 were measured */
 
 /* The largest number that a record can hold; headend_try refuses a larger one by 4. */
 #define HEADEND_RECORD_NUMBER_MAX 65535u
+
+/* The record of a pilot lamp: n + 1 counts, a byte each, for the n continuous pilots of a plan: 9 bytes and one for each kind 3 record on
+ * the chain. A fresh one is all 0. headend_lamp_record_bytes gives the bytes. No count is above HEADEND_LAMP_COUNT_MAX. */
+#define HEADEND_LAMP_RECORD_BYTES_MAX 129u
+#define HEADEND_LAMP_COUNT_MAX 128u
 
 /* The largest stores, those of N_I 3745 and M 32: 58,032 and 58,063 cells. A plan needs E cells for an emitter's store, the sum of p mod M
  * over the N_I cells p: E = (N_I / M) * (M * (M - 1) / 2) + r * (r - 1) / 2, where r = N_I mod M and N_I / M is rounded down; and
@@ -90,9 +100,9 @@ extern "C" {
 /* What a call returns: 0, or the ground that refuses it, in the words of the rules, with its place in brackets, 0 where none is named.
  * A call tries 21, then 1 to 15, along the chain 2 to 5 for each record before the next is read, then 25, then those of 16 to 20 that speak
  * of what it is given, and refuses by the first that holds. headend_fill tries 21, 1 to 15, 25, 16, 18 and 26, headend_unfill after them
- * 19; neither tries 17. headend_try tries 21, then 1 to 5 of the plan, then 1 to 15 of its copy with one more range. headend_modulate,
- * which is given no plan, tries 21, then 17, then 22 and 23 of each subcarrier before the next. 9 to 12 count: the width of a band a to b
- * is b - a + 1, the span is the highest active subcarrier less the lowest, plus one. */
+ * 19; neither tries 17. headend_try tries 21, then 1 to 5 of the plan, then 1 to 15 of its copy with one more range. headend_lamp tries 21,
+ * 1 to 15, 28 and 17. headend_modulate, which is given no plan, tries 21, then 17, then 22 and 23 of each subcarrier before the next. 9 to
+ * 12 count: the width of a band a to b is b - a + 1, the span is the highest active subcarrier less the lowest, plus one. */
 #define HEADEND_ACCEPTED 0u
 /* The plan's length is below 8, above 4,096 or not a multiple of 8. */
 #define HEADEND_REFUSED_PLAN_LENGTH 1u
@@ -137,7 +147,7 @@ extern "C" {
 #define HEADEND_REFUSED_DATA_CELL 19u
 /* An arriving cell isn't its role's mark, or for a data role neither data up to the limit of its load nor filler (subcarrier, lowest). */
 #define HEADEND_REFUSED_ARRIVING_CELL 20u
-/* A cell buffer of odd length or too short an answer buffer. */
+/* A cell buffer of odd length, too short an answer buffer, or one for pilots or lights that is too short. */
 #define HEADEND_REFUSED_BUFFER_BYTES 21u
 /* A load is not listed: 1, 2, 4 and 6 to 14 are (the load, of the lowest subcarrier that 22 or 23 refuses). */
 #define HEADEND_REFUSED_LOAD 22u
@@ -148,6 +158,8 @@ extern "C" {
 /* Fewer bits remain in the stream from the start on than the loads of the symbol's data cells add up to; a start past the end leaves
  * none. */
 #define HEADEND_REFUSED_STREAM 26u
+/* A lamp's record has other than one byte and one for each continuous pilot, or a count of it is above 128 or above its first. */
+#define HEADEND_REFUSED_LAMP_RECORD 28u
 
 /* Judges a plan. Value: N_I. Refuses by 1 to 15 and 21. */
 HEADEND_NOT_IGNORED
@@ -177,6 +189,12 @@ uint32_t headend_why(const uint8_t *plan, size_t plan_len, uint32_t subcarrier, 
  * 21. */
 HEADEND_NOT_IGNORED
 uint32_t headend_data_count(const uint8_t *plan, size_t plan_len, uint32_t phase, uint8_t *answer, size_t answer_len);
+
+/* The continuous pilots of a plan, predefined ones and those of kind 3 alike: writes their subcarriers in rising order to `pilots`, two
+ * bytes each, high byte first (headend_cell reads one), and zeros up to HEADEND_PILOTS_BYTES. Value: how many there are, 8 and one for each
+ * kind 3 record on the chain. Bytes of `pilots` past 256 are untouched. Refuses by 1 to 15 and 21. */
+HEADEND_NOT_IGNORED
+uint32_t headend_pilots(const uint8_t *plan, size_t plan_len, uint8_t *pilots, size_t pilots_len, uint8_t *answer, size_t answer_len);
 
 /* Fills a store as a fresh emitter's whose first step is at `phase`. Phase: the state of that step. Bytes of the store past
  * headend_emitter_store_bytes are untouched. Refuses by 1 to 17 and 21. */
@@ -229,6 +247,17 @@ uint32_t headend_unfill(const uint8_t *plan, size_t plan_len, const uint8_t *pro
                         const uint8_t *data, size_t data_len, size_t start, uint8_t *stream, size_t stream_len, uint8_t *answer,
                         size_t answer_len);
 
+/* The pilot lamp hears one symbol: brings `record` up to date and tells which continuous pilots are lit. A pilot is lit if its cell held
+ * HEADEND_CELL_CONTINUOUS in each of the last 128 symbols heard, or in all while there are fewer. No cell is refused. `record` is the
+ * lamp's own: 9 bytes and one for each kind 3 record on the chain, a fresh one all 0. It counts the symbols heard, then for each pilot, in
+ * rising order, how many in a row up to the latest held the mark, each up to 128. It is for one plan, and nobody else writes it: another
+ * plan needs a fresh one. The first HEADEND_LIGHTS_BYTES bytes of `lights` are 1 for a lit pilot and 0 for a dark one, in the order of
+ * headend_pilots, 0 past the last; bytes past 128 are untouched. The lights count only where the call returned 0. Value: how many pilots
+ * there are. `symbol` is exactly 8,192 bytes. Refuses by 1 to 15, 17, 21 and 28. */
+HEADEND_NOT_IGNORED
+uint32_t headend_lamp(const uint8_t *plan, size_t plan_len, const uint8_t *symbol, size_t symbol_len, uint8_t *record, size_t record_len,
+                      uint8_t *lights, size_t lights_len, uint8_t *answer, size_t answer_len);
+
 /* Fills a modulator symbol from a symbol on the line, as headend_emit or headend_flush leaves it: two floats for each subcarrier, first
  * coordinate first. `loads` has a byte for each subcarrier, 1, 2, 4 or 6 to 14, pilots and silent ones too (headend_point_load makes one
  * of a profile's load); `minus` a byte for the sign of each one's pilot, 0 for plus, any other for minus. `numbers_count` counts floats.
@@ -246,7 +275,7 @@ static inline uint32_t headend_number(const uint8_t *answer, size_t at)
     return (uint32_t)answer[at] << 24 | (uint32_t)answer[at + 1] << 16 | (uint32_t)answer[at + 2] << 8 | (uint32_t)answer[at + 3];
 }
 
-/* Cell i of a store, a symbol or data. */
+/* Cell i of a store, a symbol or data; pilot i of a list of pilots. */
 static inline uint32_t headend_cell(const uint8_t *cells, size_t i)
 {
     return (uint32_t)cells[2 * i] << 8 | (uint32_t)cells[2 * i + 1];
@@ -288,6 +317,12 @@ static inline size_t headend_emitter_store_bytes(uint32_t cells, uint32_t depth)
 static inline size_t headend_receiver_store_bytes(uint32_t cells, uint32_t depth)
 {
     return (size_t)2 * cells * (depth - 1) - headend_emitter_store_bytes(cells, depth);
+}
+
+/* The bytes that a lamp's record has, of a plan with so many continuous pilots, as headend_pilots counts them. */
+static inline size_t headend_lamp_record_bytes(uint32_t pilots)
+{
+    return (size_t)pilots + 1;
 }
 
 /* The role of a value of headend_why, as headend_role gives it; 0 of any other number. */

@@ -19,7 +19,8 @@ sys.dont_write_bytecode = True
 
 import plans
 from emitter import FULL
-from host import ANSWER, SYMBOL, Cases, Link, Loaded, some_bytes, some_line, to_bytes, with_cell, with_line, with_load
+from host import (ANSWER, SYMBOL, Cases, Interface, Lamp, Link, Loaded, some_bytes, some_line, to_bytes, with_cell, with_line,
+                  with_load)
 from loads import some_profile
 from stored import ROOT
 
@@ -27,7 +28,7 @@ from stored import ROOT
 # --- wrong expectations ----------------------------------------------------
 
 def few(cases):
-    """Twenty-six calls."""
+    """Thirty-four calls."""
     plan, rng = plans.near_a(M=2), random.Random(6)
     cases.name('few calls')
     cases.call('judge', plan=b'')                                       # 0
@@ -59,6 +60,15 @@ def few(cases):
     cases.call('why', 994, 14, plan=plan, answer=bytes(ANSWER))             # 23
     cases.call('why', 866, 128, plan=plan, answer=bytes(ANSWER))            # 24
     cases.call('why', 866, 15, plan=plan, answer=bytes(ANSWER - 1))         # 25
+    cases.call('pilots', plan=plan, pilots=b'\x5A' * 258, answer=bytes(32)) # 26
+    cases.call('pilots', plan=b'', pilots=b'\x5A' * 256, **exact)           # 27
+    cases.call('pilots', plan=plan, pilots=b'\x5A' * 255, **exact)          # 28
+    one = Lamp(cases, plan, 9, record=bytes([5, 5, 4, 0, 5, 5, 5, 5, 5]))
+    one.hear([925], lights=b'\x5A' * 130, answer=bytes(32))                 # 29
+    one.call(28, record=bytes(10), **exact)                                 # 30
+    one.call(17, symbol=bytes(8190), **exact)                               # 31
+    one.call(21, lights=b'\x5A' * 127, **exact)                             # 32
+    one.call(21, answer=bytes(ANSWER - 1))                                  # 33
     return cases
 
 
@@ -111,7 +121,28 @@ BENT = ((0, None, 0, 'a refusal by another number'), (1, None, 0, 'a refusal of 
         (23, 'answer', 3, 'another distance'), (23, 'answer', 7, 'a phase beside a distance'),
         (24, None, 0, 'a question refused by another number'), (24, 'answer', 3, 'a place of a refused question'),
         (24, 'answer', 7, 'a phase of a refused question'), (24, 'answer', 15, 'a reason of a refused question'),
-        (25, None, 0, 'a short answer of a question not refused'), (25, 'answer', 0, 'a short answer of a question written'))
+        (25, None, 0, 'a short answer of a question not refused'), (25, 'answer', 0, 'a short answer of a question written'),
+        (26, None, 0, 'a refusal of a good list'), (26, 'answer', 15, 'another number of pilots'),
+        (26, 'answer', 3, 'a place beside a list'), (26, 'answer', 16, 'a byte past the answer'),
+        (26, 'plan', 5, 'a plan changed by a list'), (26, 'pilots', 0, 'another first pilot'), (26, 'pilots', 15, 'another last pilot'),
+        (26, 'pilots', 17, 'a pilot past the last'), (26, 'pilots', 255, 'another last number'), (26, 'pilots', 256, 'a byte past a list'),
+        (27, None, 0, 'a list refused by another number'), (27, 'pilots', 0, 'a list of a refused plan'),
+        (28, None, 0, 'a short list not refused'), (28, 'pilots', 0, 'a short list written'), (28, 'answer', 15, 'pilots of a short list'),
+        (29, None, 0, 'a refusal of a good symbol'), (29, 'answer', 15, 'another number of pilots'),
+        (29, 'answer', 11, 'a number heard in the answer'), (29, 'answer', 16, 'a byte past the answer'),
+        (29, 'record', 0, 'another number of symbols heard'), (29, 'record', 1, 'a mark that was lost and counts'),
+        (29, 'record', 2, 'another count'), (29, 'record', -1, 'another last count'), (29, 'lights', 0, 'a dark pilot that is lit'),
+        (29, 'lights', 1, 'another light of a pilot that was dark'), (29, 'lights', 7, 'a lit pilot that is dark'),
+        (29, 'lights', 8, 'a light past the last pilot'), (29, 'lights', 127, 'another last light'),
+        (29, 'lights', 128, 'a byte past the lights'), (29, 'symbol', 99, 'a symbol changed by the lamp'),
+        (29, 'plan', 3, 'a plan changed by the lamp'), (30, None, 0, 'a record refused by another number'),
+        (30, 'answer', 3, 'a place of a wrong record'), (30, 'answer', 15, 'pilots beside a wrong record'),
+        (30, 'record', 0, 'a wrong record written'), (30, 'lights', 0, 'a light beside a wrong record'),
+        (31, None, 0, 'a short symbol refused by another number'), (31, 'record', 0, 'a short symbol that is heard'),
+        (31, 'lights', 0, 'a light of a short symbol'), (32, None, 0, 'short lights not refused'),
+        (32, 'lights', 0, 'short lights written'), (32, 'record', 0, 'a record beside short lights'),
+        (33, None, 0, 'a short answer of the lamp not refused'), (33, 'answer', 0, 'a short answer of the lamp written'),
+        (33, 'record', 1, 'a record beside a short answer'), (33, 'lights', 0, 'a light beside a short answer'))
 
 
 def bend_of(call, key, at):
@@ -119,7 +150,7 @@ def bend_of(call, key, at):
         if calls != call:
             return returned, after
         if key is None:
-            return (returned + 1) % 27, after
+            return (returned + 1) % 29, after
         data = bytearray(after[key])
         data[at] ^= 1
         return returned, {**after, key: bytes(data)}
@@ -127,16 +158,17 @@ def bend_of(call, key, at):
 
 
 def write_cases(folder):
-    few(Cases(folder / 'straight.cases')).end()
+    model = Interface()
+    few(Cases(folder / 'straight.cases', model=model)).end()
     for i, (call, key, at, _) in enumerate(BENT):
-        few(Cases(folder / ('bent-%02d.cases' % i), bend_of(call, key, at))).end()
-    cases = few(Cases(folder / ('bent-%02d.cases' % len(BENT))))
+        few(Cases(folder / ('bent-%02d.cases' % i), bend_of(call, key, at), model)).end()
+    cases = few(Cases(folder / ('bent-%02d.cases' % len(BENT)), model=model))
     cases.reached['judge'].add(15)          # a number that no call returned
     cases.end()
-    cases = few(Cases(folder / ('bent-%02d.cases' % (len(BENT) + 1))))
+    cases = few(Cases(folder / ('bent-%02d.cases' % (len(BENT) + 1)), model=model))
     cases.calls += 1                        # a call that is missing
     cases.end()
-    cases = few(Cases(folder / ('bent-%02d.cases' % (len(BENT) + 2))))
+    cases = few(Cases(folder / ('bent-%02d.cases' % (len(BENT) + 2)), model=model))
     cases.empty.add(('flush', 'store'))     # a buffer that was not empty in any call
     cases.end()
     return len(BENT) + 3
@@ -173,6 +205,39 @@ WHY_BEGINS = """\
         return say(answer, r, NO_STATE, 0);
 """
 WHY_JUDGED = WHY_BEGINS[WHY_BEGINS.index('    struct'):]
+
+# How pilots are found and listed, and how the lamp begins, tries a record, and hears a symbol.
+FOUND = """\
+    for (int k = 0; k < SUBCARRIERS; k++)
+        if (p->kind[k] == CONTINUOUS)
+            pilot[pilots++] = k;
+"""
+LISTED_PILOTS = """\
+    int count = find_pilots(&p, pilot);
+    for (int i = 0; i < PILOTS; i++)
+        put(pilots, (size_t)i, i < count ? (unsigned)pilot[i] : 0);
+    return say(answer, r, NO_STATE, (uint32_t)count);
+"""
+LIST_BEGINS = 'wrong_buffers(0, 0, 0, answer_len) || pilots_len < 2 * PILOTS'
+LAMP_BEGINS = 'wrong_buffers(symbol_len, 0, 0, answer_len) || lights_len < PILOTS'
+LAMP_TRIED = """\
+        r = check_record(record, record_len, pilots);
+    }
+    if (r.number == 0 && symbol_len != 2 * SUBCARRIERS)
+        r = refuse(17, 0);
+    if (r.number != 0)
+        return say(answer, r, NO_STATE, 0);
+"""
+HEARD = """\
+    record[0] = one_more(record[0]);
+    memset(lights, 0, PILOTS);
+    for (int i = 0; i < pilots; i++) {
+        uint8_t *count = &record[1 + i];
+        *count = get(symbol, (size_t)pilot[i]) == CONTINUOUS_MARK ? one_more(*count) : 0;
+        lights[i] = *count == record[0];
+    }
+    return say(answer, r, NO_STATE, (uint32_t)pilots);
+"""
 
 # (what stands once in bench/plain.c, what stands there instead)
 WRONG = (
@@ -331,6 +396,83 @@ WRONG = (
     # its answer: the place lost, the phase as heard
     ('say(answer, refuse(0, w.place),', 'say(answer, FINE,'),
     ('(struct state){w.phase, 0}', '(struct state){0, w.phase}'),
+    # the pilots: in falling order, in that of the chain, no more than eight, one of the PLC among them, the last active one not
+    (FOUND, FOUND.replace('int k = 0; k < SUBCARRIERS; k++', 'int k = SUBCARRIERS; k-- > 0;')),
+    (FOUND, '    for (int i = 0; i < 8; i++)\n        pilot[pilots++] = i < 4 ? p->l - DISTANCES[3 - i] : p->l + 7 + DISTANCES[i - 4];\n'
+     '    for (int i = 0; i < p->pilots; i++)\n        pilot[pilots++] = p->pilot[i];\n'),
+    (FOUND, FOUND.replace('== CONTINUOUS', '== CONTINUOUS && pilots < 8')),
+    (FOUND, FOUND.replace('== CONTINUOUS', '== CONTINUOUS || (p->kind[k] == PLC && k == p->l)')),
+    (FOUND, FOUND.replace('k < SUBCARRIERS', 'k < 3948')),
+    # their list: the low byte first, what stands past the last of them, what is counted, how long it is, what a refusal writes
+    (LISTED_PILOTS, LISTED_PILOTS.replace('(unsigned)pilot[i]', '(unsigned)(pilot[i] >> 8 | (pilot[i] & 255) << 8)')),
+    (LISTED_PILOTS, LISTED_PILOTS.replace(': 0', ': (unsigned)count')),
+    (LISTED_PILOTS, LISTED_PILOTS.replace(': 0', ': (unsigned)pilot[count - 1]')),
+    (LISTED_PILOTS, LISTED_PILOTS.replace('i < PILOTS', 'i < count')),
+    (LISTED_PILOTS, LISTED_PILOTS.replace('(uint32_t)count', '(uint32_t)p.n')),
+    (LISTED_PILOTS, LISTED_PILOTS.replace('(uint32_t)count', '(uint32_t)p.pilots')),
+    (LISTED_PILOTS, '    memset(pilots, 0, pilots_len);\n' + LISTED_PILOTS),
+    (LIST_BEGINS, LIST_BEGINS.replace('2 * PILOTS', '2 * PILOTS - 1')),
+    (LIST_BEGINS, LIST_BEGINS.replace('< 2', '!= 2')),
+    (LIST_BEGINS, LIST_BEGINS.replace('0, 0, 0', 'pilots_len, 0, 0')),
+    (LIST_BEGINS, 'wrong_buffers(0, 0, 0, answer_len) || (pilots_len < 2 * PILOTS && judge(&p, plan, plan_len).number == 0)'),
+    ('        return say(answer, r, NO_STATE, 0);\n    int count = find',
+     '        return memset(pilots, 0, 2 * PILOTS), say(answer, r, NO_STATE, 0);\n    int count = find'),
+    # the lamp's record: its length, its counts, the first and the last of them, the place and the number of the refusal
+    ('length != (size_t)pilots + 1', 'length < (size_t)pilots + 1'),
+    ('length != (size_t)pilots + 1', 'length > 1 + PILOTS || length < 9'),
+    ('length != (size_t)pilots + 1', 'length != 1 + PILOTS && length != (size_t)pilots + 1'),
+    ('record[i] > LAST_HEARD || record[i] > record[0]', 'record[i] > LAST_HEARD'),
+    ('record[i] > LAST_HEARD || record[i] > record[0]', 'record[i] > record[0]'),
+    ('record[i] > LAST_HEARD ||', 'record[i] >= LAST_HEARD ||'),
+    ('for (size_t i = 0; i < length; i++)\n        if (record', 'for (size_t i = 1; i < length; i++)\n        if (record'),
+    ('for (size_t i = 0; i < length; i++)\n        if (record', 'for (size_t i = 0; i + 1 < length; i++)\n        if (record'),
+    ('record[0])\n            return refuse(28, 0);', 'record[0])\n            return refuse(28, (uint32_t)i);'),
+    ('record[0])\n            return refuse(28, 0);', 'record[0])\n            return refuse(17, 0);'),
+    ('(size_t)pilots + 1)\n        return refuse(28, 0);', '(size_t)pilots + 1)\n        return refuse(28, (uint32_t)length);'),
+    ('(size_t)pilots + 1)\n        return refuse(28, 0);', '(size_t)pilots + 1)\n        return refuse(record == NULL ? 21 : 28, 0);'),
+    # counts that go up to 127 or to 255
+    ('return count < LAST_HEARD ?', 'return count < LAST_HEARD - 1 ?'),
+    ('return count < LAST_HEARD ?', 'return count < 255 ?'),
+    # what is tried, and in which order: an odd symbol, short lights, even lengths, 28 after 17, 28 before the plan's, no 17
+    (LAMP_BEGINS, LAMP_BEGINS.replace('symbol_len', '0')),
+    (LAMP_BEGINS, LAMP_BEGINS.replace('< PILOTS', '< PILOTS - 1')),
+    (LAMP_BEGINS, LAMP_BEGINS.replace('< PILOTS', '< 8')),
+    (LAMP_BEGINS, LAMP_BEGINS.replace('< PILOTS', '!= PILOTS')),
+    (LAMP_BEGINS, LAMP_BEGINS.replace('symbol_len, 0', 'symbol_len, record_len')),
+    (LAMP_BEGINS, LAMP_BEGINS.replace('symbol_len, 0', 'symbol_len, lights_len')),
+    (LAMP_TRIED, LAMP_TRIED.replace('r = check', 'r = symbol_len != 2 * SUBCARRIERS ? refuse(17, 0) : check')),
+    (LAMP_TRIED, LAMP_TRIED.replace('    }\n', '    }\n    if (record_len < 9 || record_len > 129)\n        r = refuse(28, 0);\n')),
+    (LAMP_TRIED, LAMP_TRIED.replace('symbol_len !=', 'symbol_len <')),
+    (LAMP_TRIED, LAMP_TRIED.replace('symbol_len !=', 'symbol_len != 0 && symbol_len !=')),
+    (LAMP_TRIED, LAMP_TRIED.replace('symbol_len != 2 * SUBCARRIERS', 'symbol_len / 4 != SUBCARRIERS / 2')),
+    # a cell that is refused; a refused symbol that is heard, or that darkens
+    (LAMP_TRIED, LAMP_TRIED.replace('    if (r.number != 0)', '    for (int i = 0; r.number == 0 && i < pilots; i++)\n'
+     '        if (get(symbol, (size_t)pilot[i]) != CONTINUOUS_MARK)\n            r = refuse(20, (uint32_t)pilot[i]);\n'
+     '    if (r.number != 0)')),
+    (LAMP_TRIED, LAMP_TRIED.replace('    if (r.number != 0)', '    if (r.number == 17)\n        record[0] = one_more(record[0]);\n'
+     '    if (r.number != 0)')),
+    (LAMP_TRIED, LAMP_TRIED.replace('    if (r.number != 0)', '    if (r.number != 0)\n        memset(lights, 0, PILOTS);\n'
+     '    if (r.number != 0)')),
+    # a symbol that is heard: the first count; a lost mark, which only halts a count or takes one off; what counts as the mark
+    (HEARD, HEARD.replace('    record[0] = one_more(record[0]);\n', '')),
+    (HEARD, HEARD.replace('    record[0] = one_more(record[0]);\n', '').replace('    return',
+     '    record[0] = one_more(record[0]);\n    return')),
+    (HEARD, HEARD.replace(': 0;', ': *count;')),
+    (HEARD, HEARD.replace(': 0;', ': *count - (*count > 0);')),
+    (HEARD, HEARD.replace('== CONTINUOUS_MARK', '>= SCATTERED_MARK')),
+    (HEARD, HEARD.replace('(size_t)pilot[i]) == CONTINUOUS_MARK', '(size_t)pilot[i]) % 256 == CONTINUOUS_MARK % 256')),
+    (HEARD, HEARD.replace('(size_t)pilot[i])', '(size_t)pilot[i] + 1)')),
+    # the lights: of the latest symbol, of 128 symbols alone, 255 where one is lit, past the last pilot, past all of them
+    (HEARD, HEARD.replace('*count == record[0]', '*count > 0')),
+    (HEARD, HEARD.replace('*count == record[0]', '*count == LAST_HEARD')),
+    (HEARD, HEARD.replace('*count == record[0]', '*count + 1 >= record[0]')),
+    (HEARD, HEARD.replace('*count == record[0]', '(uint8_t)-(*count == record[0])')),
+    (HEARD, HEARD.replace('    memset(lights, 0, PILOTS);\n', '')),
+    (HEARD, HEARD.replace('lights, 0,', 'lights, 1,')),
+    (HEARD, HEARD.replace('0, PILOTS', '0, lights_len')),
+    # the answer: how many are lit, the symbols heard
+    (HEARD, HEARD.replace('(uint32_t)pilots', 'record[0]')),
+    (HEARD, HEARD.replace('NO_STATE', '(struct state){0, record[0]}')),
     # the profile: its length, which loads are listed, which is named, and when it is tried
     ('if (length != SUBCARRIERS)', 'if (length < SUBCARRIERS)'),
     ('if (length != SUBCARRIERS)', 'if (length / 2 != SUBCARRIERS / 2)'),
@@ -490,7 +632,11 @@ WRONG = (
 
 # (what stands once in the header, what stands there instead): names, the answer's places, helpers
 WRONG_HEADER = (
-    ('VERSION 4', 'VERSION 3'), ('REFUSED_PROFILE 25u', 'REFUSED_PROFILE 24u'), ('REFUSED_STREAM 26u', 'REFUSED_STREAM 25u'),
+    ('VERSION 5', 'VERSION 4'), ('HEADEND_PILOTS 128u', 'HEADEND_PILOTS 120u'), ('PILOTS_BYTES 256u', 'PILOTS_BYTES 128u'),
+    ('LIGHTS_BYTES 128u', 'LIGHTS_BYTES 129u'), ('LAMP_RECORD_BYTES_MAX 129u', 'LAMP_RECORD_BYTES_MAX 128u'),
+    ('LAMP_COUNT_MAX 128u', 'LAMP_COUNT_MAX 127u'), ('REFUSED_LAMP_RECORD 28u', 'REFUSED_LAMP_RECORD 27u'),
+    ('return (size_t)pilots + 1;', 'return (size_t)pilots;'), ('return (size_t)pilots + 1;', 'return (size_t)2 * pilots + 2;'),
+    ('REFUSED_PROFILE 25u', 'REFUSED_PROFILE 24u'), ('REFUSED_STREAM 26u', 'REFUSED_STREAM 25u'),
     ('PROFILE_BYTES 4096u', 'PROFILE_BYTES 8192u'), ('return load == 0u ? 1u : load;', 'return load;'),
     ('return load == 0u ? 1u : load;', 'return load <= 1u ? 0u : load;'),
     ('return load == 0u ? 1u : load;', 'return load == 0u ? 2u : load;'),

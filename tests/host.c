@@ -34,6 +34,8 @@ static const struct {
     NAME(HEADEND_CELL_CONTINUOUS), NAME(HEADEND_CELL_PLC),
     NAME(HEADEND_SUBCARRIERS), NAME(HEADEND_PHASES), NAME(HEADEND_DEPTH_MAX), NAME(HEADEND_PLAN_BYTES_MAX), NAME(HEADEND_SYMBOL_BYTES),
     NAME(HEADEND_NUMBERS), NAME(HEADEND_RECORD_NUMBER_MAX), NAME(HEADEND_PROFILE_BYTES),
+    NAME(HEADEND_PILOTS), NAME(HEADEND_PILOTS_BYTES), NAME(HEADEND_LIGHTS_BYTES), NAME(HEADEND_LAMP_RECORD_BYTES_MAX),
+    NAME(HEADEND_LAMP_COUNT_MAX),
     NAME(HEADEND_EMITTER_STORE_BYTES_MAX), NAME(HEADEND_RECEIVER_STORE_BYTES_MAX), NAME(HEADEND_DATA_BYTES_MAX), NAME(HEADEND_STACK_BYTES),
     NAME(HEADEND_ACCEPTED), NAME(HEADEND_REFUSED_PLAN_LENGTH), NAME(HEADEND_REFUSED_RECORD_KIND), NAME(HEADEND_REFUSED_NEXT_INDEX),
     NAME(HEADEND_REFUSED_RECORD_NUMBERS), NAME(HEADEND_REFUSED_PILOT_COUNT), NAME(HEADEND_REFUSED_ACTIVE_OUTSIDE),
@@ -43,15 +45,17 @@ static const struct {
     NAME(HEADEND_REFUSED_OUT_OF_RANGE), NAME(HEADEND_REFUSED_BUFFER_LENGTH), NAME(HEADEND_REFUSED_DATA_COUNT),
     NAME(HEADEND_REFUSED_DATA_CELL), NAME(HEADEND_REFUSED_ARRIVING_CELL), NAME(HEADEND_REFUSED_BUFFER_BYTES),
     NAME(HEADEND_REFUSED_LOAD), NAME(HEADEND_REFUSED_VALUE), NAME(HEADEND_REFUSED_PROFILE), NAME(HEADEND_REFUSED_STREAM),
+    NAME(HEADEND_REFUSED_LAMP_RECORD),
 };
 
-enum { SLOTS = 13, BUFFERS = 6, NUMBERS = 2, GUARD = 64, GUARD_BYTE = 0x5A, PAGE = 65536, ROOM = 1 << 21, STACK = 1 << 20 };
-enum { GROUNDS = 26, NO_CALL_GIVES = 24 };
-enum { JUDGE, TRY, ROLE, WHY, DATA_COUNT, FRESH_EMITTER, FRESH_RECEIVER, EMIT, FLUSH, RECEIVE, FILL, UNFILL, MODULATE, CALLS };
+enum { SLOTS = 16, BUFFERS = 6, NUMBERS = 2, GUARD = 64, GUARD_BYTE = 0x5A, PAGE = 65536, ROOM = 1 << 21, STACK = 1 << 20 };
+enum { GROUNDS = 28, NO_VALUE = 24, LITERAL_STORE = 27 }; /* of the grounds up to 28 these two no call gives */
+enum { JUDGE, TRY, ROLE, WHY, DATA_COUNT, PILOTS, FRESH_EMITTER, FRESH_RECEIVER, EMIT, FLUSH, RECEIVE, FILL, UNFILL, LAMP, MODULATE,
+       CALLS };
 enum { GUARDED, OWN_BLOCK, PAGE_BEHIND, PAGE_BEFORE, NULL_IF_EMPTY, WAYS };
 /* The helpers. */
 enum { NUMBER, CELL, PUT_CELL, LOWEST_PLC, DEPTH, EMITTER_STORE_BYTES, RECEIVER_STORE_BYTES, MARK, SYMBOL_PHASE, POINT_LOAD,
-       WHY_ROLE };
+       WHY_ROLE, LAMP_RECORD_BYTES };
 
 static const struct {
     const char *name;
@@ -63,6 +67,7 @@ static const struct {
     {"role", 2, 0, 2, {"plan", "answer"}},
     {"why", 2, 0, 2, {"plan", "answer"}},
     {"data_count", 1, 0, 2, {"plan", "answer"}},
+    {"pilots", 0, 0, 3, {"plan", "pilots", "answer"}},
     {"fresh_emitter", 1, 0, 3, {"plan", "store", "answer"}},
     {"fresh_receiver", 1, 0, 3, {"plan", "store", "answer"}},
     {"emit", 1, 0, 6, {"plan", "profile", "store", "data", "symbol", "answer"}},
@@ -70,6 +75,7 @@ static const struct {
     {"receive", 2, 0, 6, {"plan", "profile", "store", "symbol", "data", "answer"}},
     {"fill", 1, 1, 5, {"plan", "profile", "stream", "data", "answer"}},
     {"unfill", 1, 1, 5, {"plan", "profile", "data", "stream", "answer"}},
+    {"lamp", 0, 0, 5, {"plan", "symbol", "record", "lights", "answer"}},
     {"modulate", 0, 0, 5, {"symbol", "loads", "minus", "numbers", "answer"}},
 };
 
@@ -255,6 +261,7 @@ static uint32_t help(unsigned which, uint8_t *bytes, const uint8_t *other, uint3
     case SYMBOL_PHASE: return headend_symbol_phase(bytes, other);
     case POINT_LOAD: return headend_point_load(a);
     case WHY_ROLE: return headend_why_role(a);
+    case LAMP_RECORD_BYTES: return (uint32_t)headend_lamp_record_bytes(a);
     default: fail("no helper %u", which);
     }
 }
@@ -360,6 +367,8 @@ static uint32_t make_call(const struct call *c, const struct lent *b)
         return headend_why(b[0].at, len[0], n[0], n[1], b[1].at, len[1]);
     case DATA_COUNT:
         return headend_data_count(b[0].at, len[0], n[0], b[1].at, len[1]);
+    case PILOTS:
+        return headend_pilots(b[0].at, len[0], b[1].at, len[1], b[2].at, len[2]);
     case FRESH_EMITTER:
         return headend_fresh_emitter(b[0].at, len[0], n[0], b[1].at, len[1], b[2].at, len[2]);
     case FRESH_RECEIVER:
@@ -375,6 +384,8 @@ static uint32_t make_call(const struct call *c, const struct lent *b)
         return headend_fill(b[0].at, len[0], b[1].at, len[1], n[0], b[2].at, len[2], c->start, b[3].at, len[3], b[4].at, len[4]);
     case UNFILL:
         return headend_unfill(b[0].at, len[0], b[1].at, len[1], n[0], b[2].at, len[2], c->start, b[3].at, len[3], b[4].at, len[4]);
+    case LAMP:
+        return headend_lamp(b[0].at, len[0], b[1].at, len[1], b[2].at, len[2], b[3].at, len[3], b[4].at, len[4]);
     default: /* numbers are counted, and aligned in every way of lending */
         return headend_modulate(b[0].at, len[0], b[1].at, len[1], b[2].at, len[2], (float *)(void *)b[3].at, len[3] / sizeof(float),
                                 b[4].at, len[4]);
@@ -472,15 +483,15 @@ static void end(void)
     uint32_t calls = number(), returned = number();
     uint64_t null = long_number();
     uint32_t names = number();
-    const uint32_t all = ((UINT32_C(1) << (GROUNDS + 1)) - 1) & ~(UINT32_C(1) << NO_CALL_GIVES);
+    const uint32_t all = ((UINT32_C(1) << (GROUNDS + 1)) - 1) & ~(UINT32_C(1) << NO_VALUE | UINT32_C(1) << LITERAL_STORE);
     if (calls != run.calls || names != run.names)
         fail("%lu calls were to be made and %lu names compared", (unsigned long)calls, (unsigned long)names);
     if (returned != run.returned)
-        fail("numbers %07lx were returned, wanted %07lx", (unsigned long)run.returned, (unsigned long)returned);
+        fail("numbers %08lx were returned, wanted %08lx", (unsigned long)run.returned, (unsigned long)returned);
     if (null != run.null)
-        fail("buffers %012llx were NULL, wanted %012llx", (unsigned long long)run.null, (unsigned long long)null);
+        fail("buffers %014llx were NULL, wanted %014llx", (unsigned long long)run.null, (unsigned long long)null);
     printf("host: %lu calls, %s, each in 4 ways, %lu also with NULL, %llu bytes and %lu names compared", (unsigned long)run.calls,
-           returned == all ? "grounds 1..23, 25 and 26 each reached" : "not all grounds reached", (unsigned long)run.nulls, run.bytes,
+           returned == all ? "grounds 1..23, 25, 26 and 28 each reached" : "not all grounds reached", (unsigned long)run.nulls, run.bytes,
            (unsigned long)run.names);
     if (own.bottom != NULL) {
         printf(", %zu bytes of stack used", stack_used());

@@ -5,15 +5,17 @@
     python3 tests/host.py --small FILE     writes fewer, for a run under valgrind
     python3 tests/host.py --example PLAN   prints what examples/modulate.c has to print of a plan
     python3 tests/host.py --link PLAN      prints what examples/link.c has to print of a plan
+    python3 tests/host.py --lamp PLAN      prints what examples/lamp.c has to print of a plan
 
 Every number and byte that is expected comes from the second model (model.py, emitter.py,
-receiver.py, loads.py, points.py), read as change request 01 says: two bytes a cell, high byte first,
-ground 21 before all others, four numbers of four bytes in the answer.
+receiver.py, loads.py, lamp.py, points.py), read as change request 01 says: two bytes a cell, high byte
+first, ground 21 before all others, four numbers of four bytes in the answer.
 
-A case file is a list of items; a number is four bytes, high byte first.  Slots 0 to 12 hold the
+A case file is a list of items; a number is four bytes, high byte first.  Slots 0 to 15 hold the
 buffers: 0 the plan, 1 an emitter's store, 2 a receiver's, 3 data to be sent, 4 the symbol, 5 data
 received, 6 the answer, 7 the loads, 8 the signs of the pilots, 9 the modulator symbol as the
-machine has it, four bytes a number, 10 the profile, 11 the stream, 12 the stream that comes back.
+machine has it, four bytes a number, 10 the profile, 11 the stream, 12 the stream that comes back,
+13 the list of pilots, 14 the lamp's record, 15 its lights.
 
     1, number, bytes                    the name of the cases that follow, so many bytes
     2, slot, number                     the slot has so many bytes: the last are left out, or zeros added
@@ -44,6 +46,7 @@ from functools import lru_cache
 sys.dont_write_bytecode = True
 
 import compare
+import lamp
 import loss
 import plans
 import points
@@ -59,7 +62,7 @@ TOP = 2 ** 32 - 1
 FAR = 2 ** 64 - 1                           # the last start
 ODD_NUMBERS = (0x12345678, 0x9ABCDEF0)      # no byte as another
 BLOCK = 256
-PLAN, SENDING, LISTENING, GIVEN, LINE, HANDED, SAID, LOADS, SIGNS, NUMBERS, PROFILE, STREAM, BACK = range(13)
+PLAN, SENDING, LISTENING, GIVEN, LINE, HANDED, SAID, LOADS, SIGNS, NUMBERS, PROFILE, STREAM, BACK, LIST, RECORD, LIGHTS = range(16)
 OF_CELLS = ('store', 'data', 'symbol')
 ROLES = ('excluded', 'plc', 'continuous', 'scattered', 'data')
 # The values of why from 1 on: the role and the kind of its reason, as the model says them, and the name in the header.
@@ -76,6 +79,7 @@ CALLS = {
     'role': (2, 'plan answer', 0, {*range(1, 17), 21}),
     'why': (2, 'plan answer', 0, {*range(1, 17), 21}),
     'data_count': (1, 'plan answer', 0, {*range(1, 17), 21}),
+    'pilots': (0, 'plan pilots answer', 0, {*range(1, 16), 21}),
     'fresh_emitter': (1, 'plan store answer', 0, {*range(1, 18), 21}),
     'fresh_receiver': (1, 'plan store answer', 0, {*range(1, 18), 21}),
     'emit': (1, 'plan profile store data symbol answer', 1, {*range(1, 20), 21, 25}),
@@ -83,20 +87,23 @@ CALLS = {
     'receive': (2, 'plan profile store symbol data answer', 2, {*range(1, 18), 20, 21, 25}),
     'fill': (1, 'plan profile stream data answer', 0, {*range(1, 17), 18, 21, 25, 26}),
     'unfill': (1, 'plan profile data stream answer', 0, {*range(1, 17), 18, 19, 21, 25, 26}),
+    'lamp': (0, 'plan symbol record lights answer', 0, {*range(1, 16), 17, 21, 28}),
     'modulate': (0, 'symbol loads minus numbers answer', 0, {17, 21, 22, 23}),
 }
 
 STARTED = ('fill', 'unfill')
+LEAST = {'pilots': lamp.LIST, 'lights': lamp.LIGHTS}        # bytes of these; with fewer it is 21
 NOT_LOADS = [load for load in range(256) if load not in LISTED]
 BUFFERS = [(name, key) for name, (_, buffers, *_) in CALLS.items() for key in buffers.split()]
 HELPERS = ('number', 'cell', 'put_cell', 'lowest_plc', 'depth', 'emitter_store_bytes', 'receiver_store_bytes',
-           'mark', 'symbol_phase', 'point_load', 'why_role')
+           'mark', 'symbol_phase', 'point_load', 'why_role', 'lamp_record_bytes')
 HEADER = ROOT / 'include' / 'headend.h'
 GROUNDS = ('PLAN_LENGTH', 'RECORD_KIND', 'NEXT_INDEX', 'RECORD_NUMBERS', 'PILOT_COUNT', 'ACTIVE_OUTSIDE',
            'EXCLUDED_AROUND_PLC', 'PILOT_TAKEN', 'NARROW_BAND', 'NO_WIDE_BAND', 'EXCLUDED_IN_SPAN',
            'EXCLUDED_IN_BAND', 'WINDOW_OF_120', 'WINDOW_OF_20', 'RANKS', 'OUT_OF_RANGE', 'BUFFER_LENGTH',
-           'DATA_COUNT', 'DATA_CELL', 'ARRIVING_CELL', 'BUFFER_BYTES', 'LOAD', 'VALUE', None, 'PROFILE', 'STREAM')
-NUMBERED = {name: 1 + i for i, name in enumerate(GROUNDS) if name}      # 24 no call gives
+           'DATA_COUNT', 'DATA_CELL', 'ARRIVING_CELL', 'BUFFER_BYTES', 'LOAD', 'VALUE', None, 'PROFILE', 'STREAM',
+           None, 'LAMP_RECORD')
+NUMBERED = {name: 1 + i for i, name in enumerate(GROUNDS) if name}      # 24 and 27 no call gives
 
 
 def number(n):
@@ -133,6 +140,9 @@ class Interface(Filling):
 
     def call(self, name, numbers, given):
         """What the call returns, and the buffers as they are after it."""
+        if name in ('pilots', 'lamp'):
+            after = getattr(lamp, name + '_call')(**given)._asdict()
+            return after.pop('number'), {**given, **after}
         state = numbers if CALLS[name][2] else ()
         if len(given['answer']) < ANSWER:
             return 21, given
@@ -234,9 +244,9 @@ def changes(old, new):
 class Cases:
     """Writes calls, each with what the model expects of it."""
 
-    def __init__(self, path, bend=None):
+    def __init__(self, path, bend=None, model=None):
         self.file = open(path, 'wb')
-        self.model = Interface()
+        self.model = model or Interface()
         self.bend = bend                    # changes an expectation: (call's number, returned, buffers)
         self.held = {}                      # of each slot, what tests/host.c has there
         self.calls = 0
@@ -285,7 +295,8 @@ class Cases:
         hears = name in ('receive', 'fresh_receiver', 'unfill')
         of = {'plan': PLAN, 'store': LISTENING if hears else SENDING,
               'data': HANDED if hears else GIVEN, 'symbol': LINE, 'answer': SAID,
-              'loads': LOADS, 'minus': SIGNS, 'numbers': NUMBERS, 'profile': PROFILE, 'stream': BACK if hears else STREAM}
+              'loads': LOADS, 'minus': SIGNS, 'numbers': NUMBERS, 'profile': PROFILE, 'stream': BACK if hears else STREAM,
+              'pilots': LIST, 'record': RECORD, 'lights': LIGHTS}
         return {key: of[key] for key in CALLS[name][1].split()}
 
     def header_name(self, name, value):
@@ -513,13 +524,15 @@ def names_of(limits):
              'CONTINUOUS': limits.continuous_mark, 'PLC': limits.plc_mark, 'DATA_MAX': 2 ** max(LISTED) - 1}
     four = ('PLACE', 'PHASE', 'HEARD', 'VALUE')
     largest = {'EMITTER': emitter_length, 'RECEIVER': receiver_length}
-    return {'VERSION': 4, 'ANSWER_BYTES': ANSWER, **{name: 4 * i for i, name in enumerate(four)},
+    return {'VERSION': 5, 'ANSWER_BYTES': ANSWER, **{name: 4 * i for i, name in enumerate(four)},
             **{name.upper(): 1 + i for i, name in enumerate(ROLES)},
             **{'WHY_' + name: 1 + i for i, name in enumerate(WHYS.values())},
             **{'CELL_' + name: mark for name, mark in marks.items()},
             'SUBCARRIERS': limits.last_subcarrier + 1, 'PHASES': limits.phases, 'DEPTH_MAX': limits.highest_m,
             'PLAN_BYTES_MAX': limits.longest, 'SYMBOL_BYTES': 2 * limits.cells, 'NUMBERS': 2 * limits.cells,
             'RECORD_NUMBER_MAX': RECORD_MAX, 'PROFILE_BYTES': limits.profile,
+            'PILOTS': lamp.MOST, 'PILOTS_BYTES': lamp.LIST, 'LIGHTS_BYTES': lamp.LIGHTS,
+            'LAMP_RECORD_BYTES_MAX': lamp.MOST + 1, 'LAMP_COUNT_MAX': lamp.MODEL.limits.cap,
             **{end + '_STORE_BYTES_MAX': 2 * length(limits.most_ranks, limits.highest_m)
                for end, length in largest.items()}, 'DATA_BYTES_MAX': 2 * limits.most_ranks, 'STACK_BYTES': 131072, 'ACCEPTED': 0,
             **{'REFUSED_' + name: n for name, n in NUMBERED.items()}}
@@ -555,6 +568,8 @@ def helpers(cases, phases):
         cases.helper('point_load', GIVEN, load, want=1 if load == 0 else load)
     for value in (*range(9), 255, 256, 257, TOP):
         cases.helper('why_role', GIVEN, value, want=WHY_ROLES[value] if value < len(WHY_ROLES) else 0)
+    for pilots in range(8, lamp.MOST + 1):
+        cases.helper('lamp_record_bytes', GIVEN, pilots, want=1 + pilots)
     for m in range(1, 33):
         for n in (282, 425, 32 * m, 100 * m + m // 2, 3744, 3745):
             cases.helper('emitter_store_bytes', SAID, n, m, want=2 * sum(p % m for p in range(n)))
@@ -615,7 +630,7 @@ def refused_plans(cases):
             # Good buffers of Plan A, then short ones and numbers out of range.
             takes += name in STARTED
             for cells, n in (({'store': 639, 'data': 421, 'symbol': SYMBOL, 'stream': 400}, 3), ({}, TOP)):
-                given = {key: some_bytes(rng, cells.get(key, 2)) for key in buffers.split()[1:-1]}
+                given = {key: some_bytes(rng, cells.get(key, LEAST.get(key, 4) // 2)) for key in buffers.split()[1:-1]}
                 if cells and 'profile' in given:
                     given['profile'] = FULL
                 want = 4 if name == 'try' and n == TOP and ground > 5 else ground       # the new record's
@@ -726,12 +741,14 @@ def empty_buffers(cases):
     link = Link(cases, plan, 60, 3)
     link.send()
     cases.name('empty buffers')
-    refused = {'plan': 1, 'profile': 25, 'store': 17, 'symbol': 17, 'data': 18, 'stream': 26, 'answer': 21}
+    refused = {'plan': 1, 'profile': 25, 'store': 17, 'symbol': 17, 'data': 18, 'stream': 26, 'pilots': 21, 'record': 28, 'lights': 21,
+               'answer': 21}
     for name, (takes, buffers, *_) in of_plans():
         data = some_bytes(rng, link.at.n) if name == 'receive' else some_data(rng, cases.model.count(link.at, 60))
         hears = name in ('receive', 'fresh_receiver')
         full = {'plan': plan, 'profile': FULL, 'store': link.listening if hears else link.sending, 'data': data,
-                'symbol': link.symbol, 'stream': rng.randbytes(800), 'answer': bytes(ANSWER)}
+                'symbol': link.symbol, 'stream': rng.randbytes(800), 'pilots': bytes(256), 'record': bytes(9), 'lights': bytes(128),
+                'answer': bytes(ANSWER)}
         full = {key: full[key] for key in buffers.split()}
         numbers = (60, 60) if name == 'try' else (60, 0)[:takes + (name in STARTED)]
         assert cases.call(name, *numbers, **full)[0] == 0
@@ -739,7 +756,8 @@ def empty_buffers(cases):
             want = 0 if (name, key) == ('receive', 'data') else refused[key]     # warming, any data buffer will do
             assert cases.call(name, *numbers, **{**full, key: b''})[0] == want
         assert cases.call(name, *numbers, **dict.fromkeys(full, b''))[0] == 21
-        assert cases.call(name, *numbers, **{**dict.fromkeys(full, b''), 'answer': bytes(ANSWER)})[0] == 1
+        want = 21 if full.keys() & LEAST.keys() else 1
+        assert cases.call(name, *numbers, **{**dict.fromkeys(full, b''), 'answer': bytes(ANSWER)})[0] == want
         if name == 'receive':
             assert cases.call('receive', 61, 1, **{**full, 'data': b''})[0] == 17     # not warming
 
@@ -1067,6 +1085,229 @@ def why_grounds(cases):
                 assert cases.call('why', k, phase, plan=plan, answer=b'\x5A' * room)[0] == 21
             for room in (ANSWER, ANSWER + 1, 999):
                 cases.call('why', k, phase, plan=plan, answer=b'\x5A' * room)
+
+
+# --- the pilot lamp --------------------------------------------------------
+
+# Cells that are not the mark: other marks, data, its bytes the other way round, each of its bits turned.
+NO_MARKS = (0x8000, 0x8001, 0x8002, 0x8004, 0x8005, 0, 16383, 65535, 0x0380, 0x0303, 0x8080, *(lamp.MARK ^ 1 << bit for bit in range(16)))
+EIGHT = [925, 937, 948, 957, 994, 1003, 1014, 1026]         # the pilots of Plan A
+OF_2000 = [1953, 1965, 1976, 1985, 2022, 2031, 2042, 2054]  # the predefined ones of L 2000
+MOST_PILOTS = [148 + 31 * i for i in range(119)] + [3948]
+# 128 pilots, from the lowest active subcarrier to the highest; the chain names them from the highest down.
+PLAN_128 = plans.full(pilots=MOST_PILOTS[::-1])
+
+
+def known_pilots():
+    """(plan, its continuous pilots), worked out by hand; then with the PLC at one subcarrier after the other."""
+    yield from ((plans.PLAN_A, EIGHT), (plans.OVERLAPPING_510, EIGHT), (MIXED, [860, 900, *EIGHT]), (LAST_PLACE, [900, *EIGHT]),
+                (plans.near_a(pilots=[1100, 900, 1000, 801]), [801, 900, *EIGHT[:5], 1000, *EIGHT[5:], 1100]),
+                (plans.near_a(pilots=[1027, 924, 971, 980, 800, 1240]), [800, 924, *EIGHT[:4], 971, 980, *EIGHT[4:], 1027, 1240]),
+                (plans.plan(204, 4, plans.outside(148, 588)), [157, 169, 180, 189, 226, 235, 246, 258]),
+                (plans.plan(3885, 4, plans.outside(3508, 3948)), [3838, 3850, 3861, 3870, 3907, 3916, 3927, 3939]),
+                (plans.SINGLES_150, OF_2000), (plans.LARGEST, [*range(200, 600, 10), *OF_2000]),
+                (plans.full(pilots=plans.pilots_of_full(120)), [*range(200, 1400, 10), *OF_2000]),
+                (PLAN_128, sorted(MOST_PILOTS + OF_2000)))
+    for l in (856, *range(945, 970), 1016, 1177):
+        yield plans.near_a(L=l), [l - 47, l - 35, l - 24, l - 15, l + 22, l + 31, l + 42, l + 54]
+
+
+def pilot_lists(cases, some):
+    """Lists that are known, in longer buffers too; of `some` plans by chance; and short buffers."""
+    rng = random.Random(40)
+    cases.name('lists of pilots')
+    for plan, want in known_pilots():
+        returned, after = cases.call('pilots', plan=plan, pilots=rng.randbytes(rng.choice((256, 257, 300))))
+        assert (returned, value_of(after['answer'])) == (0, len(want))
+        assert to_cells(after['pilots'][:256]) == want + [0] * (128 - len(want))
+    for _ in range(some):
+        cases.call('pilots', plan=some_accepted(rng, cases.model), pilots=rng.randbytes(256))
+    cases.name('the buffers of a list')
+    for plan, want in ((plans.PLAN_A, 0), (PLAN_128, 0), (plans.near_a([(850, 854)]), 14), (b'', 1)):
+        for room in (0, 1, 2 * 8, 128, 254, 255, 256, 257, 258, 999):
+            pilots = rng.randbytes(room)
+            assert cases.call('pilots', plan=plan, pilots=pilots)[0] == (want if room >= 256 else 21)
+            for short in (0, 1, ANSWER - 1):
+                assert cases.call('pilots', plan=plan, pilots=pilots, answer=b'\x5A' * short)[0] == 21
+        for room in (ANSWER, ANSWER + 1, 999):
+            assert cases.call('pilots', plan=plan, pilots=rng.randbytes(256), answer=b'\x5A' * room)[0] == want
+
+
+class Lamp:
+    """A lamp under a plan.  Its record goes from call to call; the cells beside the pilots hold anything."""
+
+    def __init__(self, cases, plan, seed, record=None):
+        self.cases, self.plan, self.rng = cases, plan, random.Random(seed)
+        self.pilots = lamp.MODEL.plan_pilots(plan)
+        self.n = len(self.pilots)
+        self.record = bytes(self.n + 1) if record is None else record
+        self.beside = some_bytes(self.rng, SYMBOL)
+
+    def symbol(self, lost=()):
+        """The mark at each pilot but those that lost it."""
+        cells = bytearray(self.beside)
+        for k in self.pilots:
+            cells[2 * k:2 * k + 2] = (self.rng.choice(NO_MARKS) if k in lost else lamp.MARK).to_bytes(2, 'big')
+        return bytes(cells)
+
+    def call(self, want, **other):
+        """A step that is right but for what is said in `other`, and what it has to return."""
+        given = {'plan': self.plan, 'symbol': self.beside, 'record': self.record,
+                 'lights': self.rng.randbytes(self.rng.choice((128, 128, 129, 300))), **other}
+        returned, after = self.cases.call('lamp', **given)
+        assert returned == want, (returned, want)
+        if returned == 0:
+            assert value_of(after['answer']) == self.n
+        return after
+
+    def hear(self, lost=(), **other):
+        """The lights after one symbol more."""
+        after = self.call(0, **{'symbol': self.symbol(lost), **other})
+        self.record = after['record']
+        return list(after['lights'][:128])
+
+    def lit(self, dark=()):
+        """Lights, of which these pilots are dark."""
+        return [int(k not in dark) for k in self.pilots] + [0] * (128 - self.n)
+
+
+def wrong_records(n, places):
+    """Records that 28 refuses under a plan with n pilots: of other lengths, with counts above 128, and above the first at these
+    places."""
+    for size in sorted({0, 1, 8, 9, n - 1, n, n + 2, n + 3, 2 * n, 129, 130, 256, 257} - {n + 1}):
+        yield bytes(size)
+        yield bytes([min(size, 128)]) * size
+    for first in (129, 130, 255):
+        yield from (bytes([first]) + bytes(n), bytes([first]) * (n + 1))
+    for first, count in ((0, 1), (0, 255), (5, 6), (126, 127), (127, 128), (128, 129), (128, 255), (1, 128)):
+        for i in places:
+            yield bytes([first] * i + [count] + [0] * (n - i))
+
+
+def lamp_lengths(one):
+    """(what is other of a step, the number that refuses it) by the lengths of its buffers."""
+    for size, want in ((0, 17), (1, 21), (2, 17), (8190, 17), (8191, 21), (8193, 21), (8194, 17), (16384, 17)):
+        yield {'symbol': (one.symbol() * 2)[:size]}, want
+    yield from (({'lights': one.rng.randbytes(size)}, 21) for size in (0, 1, 8, 126, 127))
+    yield from (({'answer': b'\x5A' * size}, 21) for size in (0, 1, ANSWER - 1))
+
+
+def lamp_grounds(cases, given_plans):
+    """The lengths of all buffers, and wrong records; of two or three wrong things the first to be tried: the answer, 21, the plan, 28,
+    17."""
+    for seed, plan in enumerate(given_plans):
+        cases.name('the grounds of the lamp')
+        refused = (({'plan': b''}, 1), ({'plan': plans.near_a([(850, 854)])}, 14), ({'plan': plans.ONE_PILOT_FEWER}, 15))
+        one = Lamp(cases, plan, seed)
+        one.record = bytes([9, *(one.rng.randrange(10) for _ in one.pilots)])
+        records = list(wrong_records(one.n, (1, one.n // 2, one.n)))
+        for other, want in lamp_lengths(one):
+            one.call(want, **other)
+            one.call(28 if want == 17 else 21, **other, record=one.rng.choice(records))
+            for bad, ground in refused if 'answer' in other or seed == 0 else ():
+                one.call(ground if want == 17 else 21, **other, **bad)
+                one.call(ground if want == 17 else 21, **other, **bad, record=one.rng.choice(records))
+        for bad, ground in refused:
+            one.call(ground, **bad)
+        for record in records:
+            one.call(28, record=record)
+        for record in records[::5]:
+            one.call(28, record=record, symbol=b'')
+            one.call(14, record=record, **refused[1][0])
+            one.call(21, record=record, lights=bytes(127))
+        for size in (128, 129, 130, 300):
+            one.hear(lights=one.rng.randbytes(size))
+        for size in (ANSWER, ANSWER + 1, 999):
+            one.hear(answer=one.rng.randbytes(size))
+
+
+def lamp_counts(cases, given_plans, firsts):
+    """From records with these symbols heard: every mark held, some lost, all lost; all counts up to the first, none, and by chance."""
+    for seed, plan in enumerate(given_plans):
+        for first in firsts:
+            cases.name('a lamp that has heard %d' % first)
+            one = Lamp(cases, plan, 50 + seed)
+            below = bytes([first, *(max(first - 1 - i % 3, 0) for i in range(one.n))])
+            chance = bytes([first, *(one.rng.choice((0, first, max(first - 1, 0), one.rng.randrange(first + 1))) for _ in one.pilots)])
+            for record in (bytes([first] * (one.n + 1)), bytes([first] + [0] * one.n), below, chance):
+                for lost in ((), one.pilots, one.rng.sample(one.pilots, one.n // 2)):
+                    one.record = record
+                    one.hear(lost)
+                    one.hear()
+
+
+def lamp_cells(cases, given_plans):
+    """Each pilot alone without the mark, and alone with it; each cell that is nearly the mark; marks everywhere but at the pilots."""
+    for seed, plan in enumerate(given_plans):
+        cases.name('marks of single pilots')
+        one = Lamp(cases, plan, 60 + seed)
+        for k in one.pilots:
+            one.record = bytes([3] * (one.n + 1))
+            assert one.hear([k]) == one.lit([k])
+            one.record = bytes(one.n + 1)
+            assert one.hear(set(one.pilots) - {k}) == one.lit(set(one.pilots) - {k})
+    one = Lamp(cases, plans.PLAN_A, 70)
+    cases.name('cells that are nearly the mark')
+    for i, cell in enumerate(NO_MARKS):
+        k = EIGHT[i % 8]
+        one.record = bytes([128] * 9)
+        assert one.hear(symbol=with_cell(one.symbol(), k, cell)) == one.lit([k])
+    for beside in (lamp.MARK, 0, 65535):
+        one.beside, one.record = to_bytes([beside] * SYMBOL), bytes(9)
+        assert one.hear() == one.lit()
+        assert one.hear(EIGHT) == one.lit(EIGHT)
+        assert one.hear(symbol=one.beside) == one.lit(EIGHT)
+
+
+def lamp_run(cases, plan, seed, symbols, losses, some):
+    """So many symbols from a fresh record on; `losses` has the numbers of symbols and which pilots lost the mark in them.  A pilot is lit
+    again 128 symbols later.  Before one symbol in `some` comes a step that is refused."""
+    one, last = Lamp(cases, plan, seed), {}
+    cases.name('a lamp that hears %d symbols' % symbols)
+    wrongs = [*lamp_lengths(one), ({'plan': plan[:-1]}, 1), *(({'record': record}, 28) for record in wrong_records(one.n, (1, one.n)))]
+    for t in range(symbols):
+        if t % some == some - 1:
+            other, want = one.rng.choice(wrongs)
+            one.call(want, **other)
+        lost = [one.pilots[i] for i in losses.get(t, ())]
+        last.update(dict.fromkeys(lost, t))
+        lights = one.hear(lost)
+        assert lights == one.lit([k for k in last if t - last[k] < 128]), t
+    assert one.record[0] == min(symbols, 128)
+
+
+def lamp_runs(cases, given):
+    """Runs, some of them of symbols that an emitter sends."""
+    for seed, (plan, symbols, losses, some) in enumerate(given):
+        lamp_run(cases, plan, 80 + seed, symbols, losses, some)
+    for plan, start in ((plans.near_a(M=3), 126), (at_depth(plans.LARGEST, 2), 64)):
+        cases.name('a lamp on the line')
+        link, one = Link(cases, plan, start, 41), Lamp(cases, plan, 42)
+        for t in range(4):
+            link.send(t == 2)
+            assert one.hear(symbol=link.symbol) == one.lit()
+
+
+def lamps(cases, small):
+    """The cases of both calls."""
+    nine, largest, rng = plans.near_a(pilots=[900]), plans.LARGEST, random.Random(43)
+    late = {5: [0], 127: [7], 128: [3], 150: [2], 200: [2], 260: range(8), 261: [1]}
+    pilot_lists(cases, 2 if small else 40)
+    lamp_grounds(cases, (plans.PLAN_A,) if small else (plans.PLAN_A, nine, largest, PLAN_128))
+    lamp_counts(cases, (nine,) if small else (plans.PLAN_A, nine, largest, PLAN_128),
+                (0, 126, 127, 128) if small else (0, 1, 2, 63, 126, 127, 128))
+    lamp_cells(cases, (plans.PLAN_A,) if small else (plans.PLAN_A, largest, PLAN_128))
+    lamp_runs(cases, ((nine, 131, {1: [0, 8], 2: [4]}, 9),) if small else
+              ((plans.PLAN_A, 300, late, 7), (nine, 127, {0: [0, 8], 1: [3]}, 9), (largest, 128, {0: [0], 1: [47], 2: [5]}, 9),
+               (PLAN_128, 129, {0: [0, 127], 1: [64], 2: [99]}, 9), (plans.PLAN_A, 131, {0: range(8), 1: [0], 2: [7]}, 9)))
+    for seed in range(4 if small else 60):
+        cases.name('a lamp under a plan by chance')
+        one = Lamp(cases, some_accepted(rng, cases.model), seed)
+        first = rng.randrange(129)
+        one.record = bytes([first, *(rng.choice((0, first, rng.randrange(first + 1))) for _ in one.pilots)])
+        for _ in range(3):
+            one.hear([k for k in one.pilots if rng.random() < 0.2])
+        one.hear(symbol=some_bytes(rng, SYMBOL))
 
 
 # --- loads and streams -----------------------------------------------------
@@ -1499,6 +1740,28 @@ def link_example(path):
     print('sent %d symbols of data and %d flushes: %d bits from bit 3 on, came back as sent' % (symbols, at.m - 1, bits))
 
 
+def lamp_example(path):
+    """The lines that examples/lamp.c prints of a plan."""
+    model, plan = Interface(), (ROOT / path).read_bytes()
+    at, pilots = model.layout(plan), lamp.MODEL.plan_pilots(plan)
+    damaged, record, lights, dark = pilots[len(pilots) // 2], bytes(len(pilots) + 1), bytes(128), 0
+    yield '%s: accepted, N_I %d, depth %d' % (path, at.n, at.m)
+    yield '%d continuous pilots: %s' % (len(pilots), ' '.join(map(str, pilots)))
+    for t in range(150):
+        symbol = to_bytes([0 if mark is None else mark for mark in model.marks_at(at, (125 + t) % 128)])
+        given = {'plan': plan, 'record': record, 'lights': bytes(128), 'answer': bytes(ANSWER),
+                 'symbol': with_cell(symbol, damaged, 0) if t == 10 else symbol}
+        if t == 0:
+            returned, after = model.call('lamp', (), {**given, 'record': record[1:]})
+            yield 'a record one byte short: refused by %d at %d' % (returned, int.from_bytes(after['answer'][:4], 'big'))
+        before, (_, after) = lights, model.call('lamp', (), given)
+        record, lights = after['record'], after['lights']
+        dark += lights[pilots.index(damaged)] == 0
+        if lights != before:
+            yield 'symbol %d: %s' % (t, lamp.line_of(pilots, lights))
+    yield '150 symbols heard: pilot %d, damaged in symbol 10, was dark after %d of them' % (damaged, dark)
+
+
 # --- the pages -------------------------------------------------------------
 
 def check_words():
@@ -1513,12 +1776,13 @@ def check_words():
 
 
 def check_page():
-    """The twelve answers that docs/C-HOST.md shows, its table of the reasons, and its example of a stream."""
+    """The fifteen answers that docs/C-HOST.md shows, its table of the reasons, and its examples of a stream and of a lamp."""
     model, a, page = Interface(), plans.PLAN_A, (ROOT / 'docs' / 'C-HOST.md').read_text()
     count = model.data_count(a, 126)
     steps = {'plan': a, 'profile': FULL, 'store': bytes(2 * 636), 'symbol': bytes(2 * SYMBOL)}
     data = bytes(2 * count)
     filling = {'plan': a, 'profile': FULL, 'stream': bytes(1000), 'data': data}
+    heard = {'symbol': bytes(2 * SYMBOL), 'record': bytes(49), 'lights': bytes(128)}
     line = {'symbol': to_bytes([64 if k == 900 else 0x8002 for k in range(SYMBOL)]), 'loads': bytes([6] * SYMBOL),
             'minus': bytes(SYMBOL), 'numbers': bytes(8 * SYMBOL)}
     for name, numbers, given in (('judge', (), {'plan': a}),
@@ -1528,7 +1792,9 @@ def check_page():
                                  ('emit', (126,), {**steps, 'data': with_cell(data, 7, 16384)}),
                                  ('emit', (126,), {**steps, 'data': data}),
                                  ('emit', (126,), {**steps, 'data': data, 'profile': with_load(FULL, 905, 5)}),
-                                 ('fill', (126, 5), filling), ('fill', (126, 2107), filling), ('modulate', (), line)):
+                                 ('fill', (126, 5), filling), ('fill', (126, 2107), filling),
+                                 ('pilots', (), {'plan': a, 'pilots': bytes(256)}), ('lamp', (), {'plan': plans.LARGEST, **heard}),
+                                 ('lamp', (), {'plan': a, **heard}), ('modulate', (), line)):
         returned, after = model.call(name, numbers, {**given, 'answer': bytes(ANSWER)})
         shown = '| %d | `%s`' % (returned, after['answer'].hex(' ', 4).upper())
         assert shown in page, 'docs/C-HOST.md should have ' + shown
@@ -1536,6 +1802,7 @@ def check_page():
         shown = '| %d | `HEADEND_WHY_%s` | %s |' % (value, name, role.replace('plc', 'PLC'))
         assert shown in page, 'docs/C-HOST.md should have ' + shown
     check_stream(page)
+    check_lamp(page)
 
 
 def check_stream(page):
@@ -1560,6 +1827,20 @@ def check_stream(page):
         assert words in ' '.join(page.split()), 'docs/C-HOST.md should have ' + words
     for cell, want in ((1, ('bits', bits)), (2, ('refused', 19, 1))):
         assert model.unfill_symbol(a, profile, 0, [data[0], cell, *data[2:]], start, bytearray(1000)) == want
+
+
+def check_lamp(page):
+    """The example of a lamp in docs/C-HOST.md, and what it says that examples/lamp.c prints."""
+    record, lines = bytes(9), page.splitlines()
+    shown = ['| 0, fresh | `%s` | |' % record.hex(' ')]
+    for t in range(1, 132):
+        symbol = lamp.bytes_of(lamp.marked(EIGHT, (937,) if t == 2 else ()))
+        _, record, lights, _ = lamp.lamp_call(plans.PLAN_A, symbol, record, bytes(128), bytes(ANSWER))
+        if t in (1, 2, 3, 128, 129, 130, 131):
+            shown.append('| %d | `%s` | `%s` |' % (t, record.hex(' ').upper(), lights[:8].hex(' ').upper()))
+    for shown in (shown, ['    ' + line for line in lamp_example('plans/plan-a.plan')]):
+        at = lines.index(shown[0])
+        assert lines[at:at + len(shown)] == shown, 'docs/C-HOST.md should have ' + '\n'.join(shown)
 
 
 def check_rows():
@@ -1600,6 +1881,7 @@ def write(path, small):
     roles(cases, range(0, 4096, 127) if small else range(4096))
     whys(cases, 512 if small else 11, 7 if small else 1, (0, 48, 49, 50, 92, 127) if small else range(128), 5 if small else 100)
     why_grounds(cases)
+    lamps(cases, small)
     counts(cases, (0, 1, 63, 127) if small else range(128))
     refused_plans(cases)
     lent_rooms(cases)
@@ -1644,6 +1926,8 @@ def main():
         example(arguments[1])
     elif len(arguments) == 2 and arguments[0] == '--link':
         link_example(arguments[1])
+    elif len(arguments) == 2 and arguments[0] == '--lamp':
+        print('\n'.join(lamp_example(arguments[1])))
     elif len(arguments) == 1 and not arguments[0].startswith('-'):
         write(arguments[0], False)
     else:

@@ -14,7 +14,7 @@ sanitizers="-g -O1 -fsanitize=address,undefined -fno-sanitize-recover=all"
 
 # The header's names as those of another implementation.
 names() {
-    for call in judge try role why data_count fresh_emitter fresh_receiver emit flush receive fill unfill modulate; do
+    for call in judge try role why data_count pilots fresh_emitter fresh_receiver emit flush receive fill unfill lamp modulate; do
         echo "-Dheadend_$call=$1_$call"
     done
 }
@@ -63,6 +63,7 @@ void ignored(uint8_t *b, float *numbers)
     headend_role(b, 0, 0, 0, b, 0);
     headend_why(b, 0, 0, 0, b, 0);
     headend_data_count(b, 0, 0, b, 0);
+    headend_pilots(b, 0, b, 0, b, 0);
     headend_fresh_emitter(b, 0, 0, b, 0, b, 0);
     headend_fresh_receiver(b, 0, 0, b, 0, b, 0);
     headend_emit(b, 0, b, 0, 0, b, 0, b, 0, b, 0, b, 0);
@@ -70,12 +71,13 @@ void ignored(uint8_t *b, float *numbers)
     headend_receive(b, 0, b, 0, 0, 0, b, 0, b, 0, b, 0, b, 0);
     headend_fill(b, 0, b, 0, 0, b, 0, 0, b, 0, b, 0);
     headend_unfill(b, 0, b, 0, 0, b, 0, 0, b, 0, b, 0);
+    headend_lamp(b, 0, b, 0, b, 0, b, 0, b, 0);
     headend_modulate(b, 0, b, 0, b, 0, numbers, 0, b, 0);
 }
 END
     local warned
     warned=$(LC_ALL=C gcc -Iinclude -c "$work/ignored.c" -o "$work/ignored.o" 2>&1 | grep -c 'ignoring return value' || true)
-    [ "$warned" -eq 13 ] || fail "$warned of 13 ignored numbers are warned of"
+    [ "$warned" -eq 15 ] || fail "$warned of 15 ignored numbers are warned of"
 }
 
 # The cases, the two C implementations, wrong programs and wrong headers.
@@ -116,7 +118,7 @@ prints() {
 
 # the_examples FLAGS AND OBJECTS: the examples over an implementation.
 the_examples() {
-    for example in link trunks modulate; do
+    for example in link trunks modulate lamp; do
         gcc $warnings -O2 -Iinclude examples/$example.c "$@" -o "$work/$example"
         if "$work/$example" plans/refused-14.plan 2> /dev/null; then fail "examples/$example.c took a refused plan"; fi
     done
@@ -124,6 +126,7 @@ the_examples() {
         prints link plans/$plan.plan tests/host.py --link
         prints trunks plans/$plan.plan tests/loss.py --trunks
         prints modulate plans/$plan.plan tests/host.py --example
+        prints lamp plans/$plan.plan tests/host.py --lamp
     done
 }
 

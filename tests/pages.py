@@ -1,14 +1,15 @@
 #!/usr/bin/env python3
-"""Holds docs/REFUSALS.md, docs/PLAN-FILE.md, docs/TRYCHECK.md and docs/WHYCHECK.md to the second model
-and to plans/.
+"""Holds docs/REFUSALS.md, docs/PLAN-FILE.md, docs/TRYCHECK.md, docs/WHYCHECK.md and docs/LAMPCHECK.md to
+the second model and to plans/.
 
     python3 tests/pages.py
 
 Each ground has its entry with its parts and its limits; each plan that is cited
 gives the line beside it; Plan A stands in PLAN-FILE.md byte for byte, decoded as
 the model decodes it; each word has its entry; each trial on Plan A gives the line
-beside it, and each question that whycheck is asked; what both tell of wrong words
-stands there as in their source.
+beside it, and each question that whycheck is asked; each symbol of lampcheck's stored
+run has the line beside it, and each lost mark keeps its pilot dark as long as it says;
+what these three tell stands there as in their source.
 Then every cited line, every byte of Plan A and every entry is changed in turn, and
 the change must be noticed.
 """
@@ -19,6 +20,7 @@ from pathlib import Path
 
 sys.dont_write_bytecode = True
 
+import lamp
 import loads
 import model
 import points
@@ -50,13 +52,14 @@ NUMBERS = {
     17: (X.last_subcarrier + 1, 2 * (X.last_subcarrier + 1)),
     19: (16383,),
     20: (16383,),
-    21: (16,),
+    21: (lamp.ANSWER, lamp.LIGHTS, lamp.LIST),
     22: (*points.Points.loads[:4], points.Points.loads[-1]),
     25: (X.last_subcarrier + 1, *loads.LISTED[:3], loads.LISTED[-1]),
     26: (8,),
     27: (literal_length(425, 4), literal_length(X.most_ranks, X.highest_m)),
+    28: (lamp.LampLimits().cap, len(lamp.EIGHT) + 1),
 }
-GROUNDS = range(1, 28)
+GROUNDS = range(1, 29)
 
 
 def plan(name):
@@ -95,11 +98,11 @@ def wrong_calls(number, text):
     named = set(re.findall(r'`(headend_[a-z_]+)`', text.split('- Calls:')[-1].split(';')[0]))
     steps = {'headend_emit', 'headend_flush', 'headend_receive'}
     starts = {'headend_fresh_emitter', 'headend_fresh_receiver'}
-    modulate = {'headend_modulate'}
+    modulate, lamps = {'headend_modulate'}, {'headend_lamp'}
     bits = {'headend_fill', 'headend_unfill'}
-    wanted = {16: calls() - {'headend_judge', 'headend_try'} - modulate, 17: starts | steps | modulate, 18: {'headend_emit'} | bits,
-              19: {'headend_emit', 'headend_unfill'}, 20: {'headend_receive'}, 21: calls(), 22: modulate, 23: modulate, 24: set(),
-              25: {'headend_emit', 'headend_receive'} | bits, 26: bits, 27: set()}[number]
+    wanted = {16: calls() - {'headend_judge', 'headend_try', 'headend_pilots'} - modulate - lamps, 17: starts | steps | modulate | lamps,
+              18: {'headend_emit'} | bits, 19: {'headend_emit', 'headend_unfill'}, 20: {'headend_receive'}, 21: calls(), 22: modulate,
+              23: modulate, 24: set(), 25: {'headend_emit', 'headend_receive'} | bits, 26: bits, 27: set(), 28: lamps}[number]
     if named == wanted and wanted <= calls():
         return []
     return ['ground %d: other calls: %s' % (number, ' '.join(sorted(named ^ wanted)))]
@@ -240,6 +243,83 @@ def bent_whys(text):
     yield text.replace('0 to 4294967295 in digits, as', '0 to 65535 in digits, as')
 
 
+# The rows of docs/LAMPCHECK.md: a symbol, the pilots without the mark in it and the line; and the symbols that lost a mark, those after
+# which its pilot is dark, and the one with which it is lit again.
+HEARD = r'^\| (\d+) \| ([\w, ]+) \| `((?:all lit|dark)[ \d]*)` \|'
+DARK = r'^\| (\d+)(?: (and|to) (\d+))? \| (\d+) to (\d+) \| (\d+) \|$'
+
+
+def without_mark(symbol, pilots):
+    """How the page says it."""
+    some = ['%d' % k for k in pilots if symbol[k] != lamp.MARK]
+    return 'none' if not some else 'all' if len(some) == len(pilots) else ', '.join(some)
+
+
+def stored_rows():
+    """The rows that lampcheck's stored run has."""
+    files = ROOT / 'crates/lampcheck'
+    data, given = (files / 'data/one-pilot.plan').read_bytes(), (files / 'stdin').read_bytes()
+    symbols = [lamp.cells_of(given[at:at + lamp.SYMBOL]) for at in range(0, len(given), lamp.SYMBOL)]
+    pilots = lamp.MODEL.plan_pilots(data)
+    return [('%d' % (1 + i), without_mark(symbol, pilots), line)
+            for i, (symbol, line) in enumerate(zip(symbols, lamp.lampcheck(data, given)[0]))]
+
+
+def dark_after(lost, count):
+    """The symbols, counted from 1, after which pilot 957 of Plan A is dark, of so many of which some lost its mark."""
+    data, record = plan('plan-a.plan'), [0] * 9
+    held, other = lamp.marked(lamp.EIGHT), lamp.marked(lamp.EIGHT, (957,))
+    return [t for t in range(1, count + 1)
+            if lamp.MODEL.lamp(data, other if t in lost else held, record)[1][lamp.EIGHT.index(957)] == 0]
+
+
+def wrong_dark(row):
+    """Whether a row about lost marks is wrong; of one that is right, the pilot stays lit for 300 symbols more."""
+    first, word, second, low, high, again = row
+    lost = {'': [first], 'and': [first, second], 'to': range(int(first), int(second or 0) + 1)}[word]
+    return (int(high) + 1 != int(again)
+            or dark_after(set(map(int, lost)), int(again) + 300) != [*range(int(low), int(high) + 1)])
+
+
+def untold_lamp(text):
+    """What lampcheck tells, of which the page or the source says something else."""
+    sources = [*(ROOT / 'crates/lampcheck/src').glob('*.rt'), ROOT / 'crates/console/src/lib.rt']
+    source = ''.join(path.read_text(encoding='utf-8') for path in sources)
+    for told in lamp.TOLD:
+        if '\n    lampcheck: %s\n' % told not in text or 'b": %s\\n"' % told not in source:
+            yield 'something else is told than: ' + told
+
+
+def wrong_lamps(text):
+    """What is wrong with docs/LAMPCHECK.md."""
+    wrong = [] if re.findall(HEARD, text, flags=re.M) == stored_rows() else ['the six symbols have other lines']
+    rows = re.findall(DARK, text, flags=re.M)
+    wrong += ['a mark lost in %s %s %s: other symbols' % row[:3] for row in rows if wrong_dark(row)]
+    wrong += [] if len(rows) == 6 else ['%d rows about lost marks' % len(rows)]
+    named = (len(lamp.EIGHT), lamp.MOST), (lamp.MARK, lamp.MOST)
+    for sentence in ('%d to %d of them' % named[0], 'the mark 0x%04X in each of the last %d symbols' % named[1]):
+        wrong += [] if sentence in text else ['missing: ' + sentence]
+    return wrong + wrong_lines(text) + list(untold_lamp(text))
+
+
+def bent_lamps(text):
+    for found in re.finditer(HEARD, text, flags=re.M):
+        yield text[:found.start(2)] + '937' + text[found.end(2):]
+        yield text[:found.start(3)] + 'dark 937' + text[found.end(3):]
+        yield text[:found.start()] + text[text.index('\n', found.start()) + 1:]
+    for found in re.finditer(DARK, text, flags=re.M):
+        for group in (1, 3, 4, 5, 6):
+            if found.group(group):
+                yield text[:found.start(group)] + str(int(found.group(group)) + 1) + text[found.end(group):]
+        yield text[:found.start()] + text[found.end() + 1:]
+    for told in lamp.TOLD:
+        yield text.replace('\n    lampcheck: %s\n' % told, '\n    lampcheck: %s.\n' % told)
+    yield text.replace('8 to 128 of them', '8 to 120 of them')
+    yield text.replace('the mark 0x8003 in each', 'the mark 0x8004 in each')
+    yield text.replace('of the last 128 symbols', 'of the last 127 symbols')
+    yield from bent_lines(text)
+
+
 def bent_lines(text):
     """The text with the last number of one cited line changed, for each."""
     for found in re.finditer(r'`(?:ok|refused) \d+ (\d+)`', text):
@@ -272,7 +352,8 @@ def bent_plan_file(text):
 def main():
     pages = ((wrong_refusals, bent_refusals, 'REFUSALS.md'),
              (wrong_plan_file, bent_plan_file, 'PLAN-FILE.md'),
-             (wrong_trials, bent_trials, 'TRYCHECK.md'), (wrong_whys, bent_whys, 'WHYCHECK.md'))
+             (wrong_trials, bent_trials, 'TRYCHECK.md'), (wrong_whys, bent_whys, 'WHYCHECK.md'),
+             (wrong_lamps, bent_lamps, 'LAMPCHECK.md'))
     failed = False
     for wrong, bent, name in pages:
         text = (ROOT / 'docs' / name).read_text(encoding='utf-8')

@@ -1,8 +1,8 @@
 #!/usr/bin/env bash
 # What the programs print and tell where they cannot read or write, as docs/PLANCHECK.md says: input closed, a folder, a read that fails in
 # the middle, output closed or full; and what is no failure: input that ends, that comes in small parts, or that is longer than any plan;
-# and what trycheck, whycheck and linkcheck make of the words that they are given, as docs/TRYCHECK.md, docs/WHYCHECK.md and
-# docs/LINKCHECK.md say.
+# and what trycheck, whycheck, linkcheck and lampcheck make of the words that they are given, as docs/TRYCHECK.md, docs/WHYCHECK.md,
+# docs/LINKCHECK.md and docs/LAMPCHECK.md say, and lampcheck of its symbols.
 # Needs gcc, and the programs, built by `rt check` or `rt ci`.
 #
 #     tests/programs.sh            the programs of target/bin
@@ -79,16 +79,31 @@ said() {
     is "$3" "$work/err" || differs "$1: standard error has: $(head -c 200 "$work/err")"
 }
 
-# The stored words of a program; all but trycheck have none.
+# The stored words of a program; all but trycheck and lampcheck have none. A word that names a file of its data/ is that file's path.
 words() {
-    [ ! -e "crates/$1/args" ] || cat "crates/$1/args"
+    local word
+    [ -e "crates/$1/args" ] || return 0
+    while read -r word; do
+        [ ! -e "crates/$1/data/$word" ] || word=crates/$1/data/$word
+        echo "$word"
+    done < "crates/$1/args"
+}
+
+# How many bytes a program reads of the files that its stored words name, before it reads its input.
+named() {
+    local word bytes=0
+    for word in $(words $1); do
+        [ ! -f "$word" ] || bytes=$((bytes + $(wc -c < "$word")))
+    done
+    echo $bytes
 }
 
 # each PROGRAM LINES LESS FIRST: on its stored input and words it prints these lines; where the last byte is not read LESS of them, and
-# where nothing is read only FIRST. Other words are ignored by all but trycheck, whycheck and linkcheck.
+# where nothing is read only FIRST. Other words are ignored by all but trycheck, whycheck, linkcheck and lampcheck.
 each() {
-    local program=$1 given=crates/$1/stdin unread="$1: standard input cannot be read" run
+    local program=$1 given=crates/$1/stdin unread="$1: standard input cannot be read" run before
     run="$bin/$program $(words $program)"
+    before=$(named $program)
     try $run < "$given"
     said "$program" "$2" ''
     if [ ! -e "crates/$1/args" ] && [ "$program" != linkcheck ] && [ "$program" != whycheck ]; then
@@ -101,9 +116,9 @@ each() {
     said "$program with its input closed" "$4" "$unread"
     try $run < .
     said "$program on a folder" "$4" "$unread"
-    part 3 $run < "$given"
+    part $((before + 3)) $run < "$given"
     said "$program where the read fails after 3 bytes" "$4" "$unread"
-    part $(($(wc -c < "$given") - 1)) $run < "$given"
+    part $((before + $(wc -c < "$given") - 1)) $run < "$given"
     said "$program where the last byte is not read" "$3" "$unread"
 }
 
@@ -323,6 +338,134 @@ open(sys.argv[1], "wb").write(bytes((0, 4, *range(6, 15))[(7 * k + 3) % 11] for 
     profiled '' "$expected" a b c
 }
 
+# heard WHAT LINES TOLD BYTES: lampcheck under the plan of its stored run, on so many bytes of its stored symbols.
+heard() {
+    head -c "$4" crates/lampcheck/stdin > "$work/symbols"
+    try "$bin/lampcheck" $(words lampcheck) < "$work/symbols"
+    said "lampcheck on $1" "$2" "$3"
+}
+
+# lines COUNT: the first so many lines of lampcheck's stored run.
+lines() {
+    head -n "$1" crates/lampcheck/stdout
+}
+
+# The words of lampcheck: none, two, files that cannot be read, and plans that are refused, of which no symbol is read.
+lamp_words() {
+    local expected='one word is expected, the name of a file with a plan, as in: lampcheck my.plan'
+    local unread='the file of the plan cannot be read' plan left size
+    unworded lampcheck "$expected"
+    unworded lampcheck "$expected" plans/plan-a.plan plans/plan-a.plan
+    unworded lampcheck "$expected" "$work/missing" 925 0
+    unworded lampcheck "$unread" "$work/missing"
+    unworded lampcheck "$unread" plans
+    unworded lampcheck "$unread" plans/plan-a.plan/
+    unworded lampcheck "$unread" ''
+    unworded lampcheck "$unread" --help
+    unworded lampcheck "$unread" "$(printf '%05000d' 0)"
+    part 10 "$bin/lampcheck" plans/plan-a.plan < crates/lampcheck/stdin
+    said 'lampcheck where the read of the plan fails' '' "lampcheck: $unread"
+    for plan in plans/empty.plan plans/refused-*.plan plans/largest-39-pilots.plan; do
+        try "$bin/lampcheck" "$plan" < crates/lampcheck/stdin
+        said "lampcheck $plan" "$(python3 tests/model.py < "$plan")" ''
+        try "$bin/lampcheck" "$plan" <&-
+        said "lampcheck $plan with its input closed" "$(python3 tests/model.py < "$plan")" ''
+    done
+    left=$({ "$bin/lampcheck" plans/refused-14.plan > /dev/null && cat; } < crates/lampcheck/stdin | wc -c)
+    [ "$left" -eq "$(wc -c < crates/lampcheck/stdin)" ] || differs "lampcheck on a refused plan leaves $left bytes of its input"
+    for size in 4097 4104 70000; do
+        { cat plans/plan-a.plan && head -c $((size - 24)) /dev/zero; } > "$work/long"
+        try "$bin/lampcheck" "$work/long" < crates/lampcheck/stdin
+        said "lampcheck on a plan of $size bytes" 'refused 1 0' ''
+    done
+    status=0
+    : > "$work/out"
+    "$bin/lampcheck" plans/refused-14.plan > /dev/full 2> "$work/err" <&- || status=$?
+    said 'lampcheck on a refused plan with its output full' '' 'lampcheck: standard output cannot be written'
+}
+
+# The symbols of lampcheck: none, parts of one, whole ones and a part, a read that fails within the second.
+lamp_symbols() {
+    local within='lampcheck: the input ends within a symbol, which has 8192 bytes' size
+    heard 'no bytes' '' 'lampcheck: no symbol on standard input, 8192 bytes each' 0
+    for size in 1 2 4096 8191; do
+        heard "$size bytes" '' "$within" $size
+    done
+    heard 'one symbol' "$(lines 1)" '' 8192
+    for size in 8193 12000 16383; do
+        heard "$size bytes" "$(lines 1)" "$within" $size
+    done
+    heard 'two symbols' "$(lines 2)" '' 16384
+    heard 'five symbols and all of the sixth but a byte' "$(lines 5)" "$within" 49151
+    part $(($(named lampcheck) + 8292)) "$bin/lampcheck" $(words lampcheck) < crates/lampcheck/stdin
+    said 'lampcheck where the read fails within the second symbol' "$(lines 1)" 'lampcheck: standard input cannot be read'
+    part $(($(named lampcheck) + 8192)) "$bin/lampcheck" $(words lampcheck) < crates/lampcheck/stdin
+    said 'lampcheck where the read fails after the first symbol' "$(lines 1)" 'lampcheck: standard input cannot be read'
+}
+
+# symbols COUNT T:K ..: so many symbols, the mark in every cell, but for subcarrier K in symbol T, counted from 0.
+symbols() {
+    python3 -c 'import sys
+count, *lost = sys.argv[1:]
+cells = {}
+for word in lost:
+    t, k = map(int, word.split(":"))
+    cells.setdefault(t, []).append(k)
+held = b"\x80\x03" * 4096
+for t in range(int(count)):
+    symbol = bytearray(held)
+    for k in cells.get(t, ()):
+        symbol[2 * k:2 * k + 2] = b"\0\0"
+    sys.stdout.buffer.write(symbol)' "$@"
+}
+
+# many PLAN COUNT T:K ..: lampcheck on so many symbols from a pipe, beside the second model; 10,000 of them are more than 64 MiB.
+many() {
+    local plan=$1
+    shift
+    symbols "$@" > "$work/symbols"
+    python3 tests/lamp.py "$plan" < "$work/symbols" > "$work/lines"
+    [ "$(wc -l < "$work/lines")" -eq "$1" ] || differs "the model has no $1 lines of $1 symbols"
+    set +e
+    cat "$work/symbols" | "$bin/lampcheck" "$plan" > "$work/out" 2> "$work/err"
+    status=$((PIPESTATUS[0] + PIPESTATUS[1]))
+    set -e
+    said "lampcheck $plan on $* from a pipe" "$(cat "$work/lines")" ''
+    rm "$work/symbols"
+}
+
+# The longest line of lampcheck: 128 pilots, each on a subcarrier of four digits, all dark.
+longest() {
+    python3 -B -c 'import sys
+sys.path.insert(0, "tests")
+import plans
+further = [k for k in range(1000, 2400, 10) if not 1944 <= k <= 2063]
+open(sys.argv[1], "wb").write(plans.full(pilots=further[:120]))' "$work/plan"
+    head -c 16384 /dev/zero > "$work/symbols"
+    try "$bin/lampcheck" "$work/plan" < "$work/symbols"
+    said 'lampcheck with 128 pilots, all dark' "$(python3 tests/lamp.py "$work/plan" < "$work/symbols")" ''
+    [ "$(head -n 1 "$work/out" | wc -c)" -eq 645 ] || differs 'the longest line of lampcheck is another'
+}
+
+# The line of a symbol is there before the next symbol comes.
+arriving() {
+    mkfifo "$work/line"
+    "$bin/lampcheck" $(words lampcheck) < "$work/line" > "$work/out" 2> "$work/err" &
+    local reader=$! tries=0
+    exec 3> "$work/line"
+    head -c 8192 crates/lampcheck/stdin >&3
+    while ! is "$(lines 1)" "$work/out" && [ $tries -lt 100 ]; do
+        sleep 0.05
+        tries=$((tries + 1))
+    done
+    is "$(lines 1)" "$work/out" || differs 'lampcheck has no line of a symbol before the next one comes'
+    head -c 16384 crates/lampcheck/stdin | tail -c 8192 >&3
+    exec 3>&-
+    status=0
+    wait $reader || status=$?
+    said 'lampcheck on symbols as they arrive' "$(lines 2)" ''
+}
+
 # A program that is stopped and goes on while it reads has not failed.
 stopped() {
     mkfifo "$work/pipe"
@@ -353,12 +496,12 @@ stack() {
 for program in plancheck trycheck whycheck linkcheck figurecheck; do
     each $program "$(cat crates/$program/stdout)" '' ''
 done
-for program in plancases trycases whycases emitcases receivecases fillcases modulatecases; do
+for program in plancases trycases whycases emitcases receivecases fillcases modulatecases lampcases lampcheck; do
     each $program "$(cat crates/$program/stdout)" "$(sed '$d' crates/$program/stdout)" ''
 done
 each rolecases "$(cat crates/rolecases/stdout)" "$(sed '$d' crates/rolecases/stdout)" "$(head -n 1 crates/rolecases/stdout)"
-for program in plancheck trycheck whycheck linkcheck figurecheck plancases trycases whycases rolecases emitcases receivecases fillcases \
-    pointcases modulatecases; do
+for program in plancheck trycheck whycheck linkcheck figurecheck lampcheck plancases trycases whycases rolecases emitcases receivecases \
+    fillcases pointcases modulatecases lampcases; do
     unwritten $program
 done
 for program in plancheck trycheck whycheck linkcheck figurecheck; do
@@ -367,11 +510,18 @@ done
 ranges
 questions
 profiles
+lamp_words
+lamp_symbols
+longest
+arriving
+many plans/plan-a.plan 300 0:925 1:937 1:1026 100:994 171:1003 172:1014 299:948
+many plans/largest.plan 200 0:200 0:2054 5:590 72:1953
+many plans/plan-a.plan 10000 0:925 5000:948 9871:1003 9872:1014 9999:1026
 stopped
 grep -oE '^- `[a-z]+`: [0-9]+ KiB' docs/PLANCHECK.md | tr -d '`:-' > "$work/stacks"
 while read -r program size unit; do
     stack "$program" "$size"
 done < "$work/stacks"
-[ "$(wc -l < "$work/stacks")" -eq 14 ] || differs 'docs/PLANCHECK.md does not give the stack of fourteen programs'
+[ "$(wc -l < "$work/stacks")" -eq 16 ] || differs 'docs/PLANCHECK.md does not give the stack of sixteen programs'
 [ $differences -eq 0 ] || { echo "programs.sh: $differences differences in $runs runs"; exit 1; }
 echo "programs.sh: $runs runs, all as said"

@@ -25,7 +25,7 @@ any-names k [] = refl
 any-names k (e ∷ es) = ap₂ _||_ (eqb-sym (e .low) k) (any-names k es)
 
 module _ (d : Device) (p : Plan) where
-  pub length-predefined : length (predefined d (p .plc)) ≡ 2 * length (d .distances)
+  length-predefined : length (predefined d (p .plc)) ≡ 2 * length (d .distances)
   unfolding predefined
   length-predefined =
       let below : ℕ → ℕ = λ x. p .plc - x in

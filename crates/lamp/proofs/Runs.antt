@@ -1,15 +1,14 @@
 -- The claims of the pilot lamp hold, of any device that fits. Assumes nothing.
 use Prim.Native.Nat.{ℕ, suc, _≤_, _<_}
-use mathlib.Core.Path.{_≡_, refl, sym, ap, _∙_, subst}
+use mathlib.Core.Path.{_≡_, refl, sym, ap, _∙_}
 use mathlib.Core.Logic.{by-cases}
-use mathlib.Core.Bool.{Bool, true, false, _&&_}
+use mathlib.Core.Bool.{false}
 use mathlib.Core.List.{List, [], _∷_}
 use native.Mathlib.Decide.{decLt, ℕ-discrete}
 use native.Mathlib.Omega.{arith}
-use lib.Dec.{ltb, eqb}
 use lib.ListN.{length, getD, List·getD-eq-default}
-use borrow.Author.Tests.{eq-eqb, ne-eqb, lt-ltb, le-ltb}
-use Rattle.counting.specs.Search.{bit, pick, tabulate}
+use borrow.Author.Tests.{ne-eqb, lt-ltb, le-ltb}
+use Rattle.counting.specs.Search.{bit, tabulate}
 use Rattle.counting.proofs.Lists.{length-tabulate, getD-tabulate}
 use Rattle.rules.specs.declared.Device.{Device}
 use Rattle.rules.specs.declared.Finding.{Finding}
@@ -23,7 +22,7 @@ use Rattle.rules.proofs.Findings.{by-finding}
 use Rattle.verdicts.proofs.Verdicts.{no-ground}
 use Rattle.pilots.specs.Pilots.{pilotsMost, continuousPilots}
 use Rattle.pilots.proofs.Numbers.{few}
-use Rattle.lamprecord.specs.Record.{lampCap, freshRecord, lit, lights, lampRecord, nextRecord, litAfresh}
+use Rattle.lamprecord.specs.Record.{lampCap, lit, lights, lampRecord}
 use Rattle.lamprecord.proofs.Afresh.{length-record, fresh-record, next-record, lights-afresh, good-record}
 use Rattle.lampgrounds.specs.Steps.{Lamping, lamps, shows, noLights, lampFinding, lampHears, lampStep}
 use Rattle.lampgrounds.proofs.Opened.{finding-fine, finding-17}

@@ -13,7 +13,7 @@ use Rattle.rules.specs.Grounds.{verdict}
 use Rattle.pilots.specs.Pilots.{continuousPilots}
 use Rattle.lamprecord.specs.Record.{lampCap, lit, lampRecord, litAfresh}
 use Rattle.lampgrounds.specs.Steps.{Lamping, lampStep}
-use Rattle.lamp.specs.Run.{Listened, lampRun}
+use Rattle.lamp.specs.Run.{lampRun}
 
 -- of every record and every symbol, with any bytes as a plan
 pub record StepClaims (step : List ℕ → List ℕ → Lamping) : Type 0 where

@@ -6,7 +6,7 @@ use mathlib.Core.List.{List, _∷_}
 use native.Mathlib.Omega.{arith}
 use lib.Dec.{eqb}
 use lib.ListN.{length, getD}
-use Rattle.counting.specs.Search.{pick, tabulate}
+use Rattle.counting.specs.Search.{pick}
 use Rattle.counting.proofs.Lists.{length-tabulate, getD-tabulate, tabulate-cong}
 use Rattle.rules.specs.declared.Device.{Device}
 use Rattle.rules.specs.declared.Finding.the-variants.{Fine, Ground}

@@ -2,18 +2,18 @@
 use Prim.Native.Nat.{ℕ, zero, suc, _+_, _≤_, _<_}
 use mathlib.Core.Path.{_≡_, refl, sym, ap, ap₂, _∙_}
 use mathlib.Core.Logic.{by-cases}
-use mathlib.Core.Bool.{Bool, true, false, not, _&&_, _||_}
+use mathlib.Core.Bool.{Bool, false, not, _&&_, _||_}
 use mathlib.Core.Option.{Option}
 use mathlib.Core.List.{List, [], _∷_, map}
 use native.Mathlib.Decide.{decLt}
 use native.Mathlib.Omega.{arith}
-use lib.Dec.{leb, ltb, eqb}
-use lib.ListN.{length, getD, take, replicate, length-map, length-replicate}
+use lib.Dec.{leb, ltb}
+use lib.ListN.{length, getD, take, replicate, length-map}
 use borrow.Author.Tests.{le-ltb, le-leb, lt-leb, eq-eqb}
-use Rattle.counting.specs.Search.{pick, lowest, isNone, tabulate}
+use Rattle.counting.specs.Search.{pick, isNone}
 use Rattle.counting.proofs.Bools.{by-test, or-true}
 use Rattle.counting.proofs.Laws.{none-lowest}
-use Rattle.counting.proofs.Lists.{is-tabulate, getD-map-in, zeros}
+use Rattle.counting.proofs.Lists.{is-tabulate, getD-map-in}
 use Rattle.lamprecord.specs.Record.{holdsMark, inRow, every, freshRecord, lit, capped, lampRecord, nextBy, nextRecord, litAfresh, badCount, badRecord}
 use Rattle.lamprecord.proofs.Counts.{capped-low, capped-le, capped-mono, capped-suc, covers}
 

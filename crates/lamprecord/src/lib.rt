@@ -1,6 +1,6 @@
 // The pilot lamp's record (document 02, Req 10): what ground 28 asks of it, the record after one more symbol, and its lights. The functions
 // are for the entries above, which have read the plan and know its pilots.
-ghost use Prim.Native.Nat.{ℕ, suc, _+_, _≤_, _<_};
+ghost use Prim.Native.Nat.{suc, _+_, _≤_, _<_};
 ghost use mathlib.Core.Path.{_≡_};
 ghost use mathlib.Core.Bool.{not, _&&_, _||_};
 ghost use lib.Dec.{ltb, eqb};
@@ -8,7 +8,7 @@ ghost use lib.ListN.{length, getD};
 ghost use Rattle.counting.specs.Search.{bit, pick, lowest, isNone};
 ghost use Rattle.rules.specs.Roles.{continuousMark};
 ghost use Rattle.pilots.specs.Pilots.{pilotsMost};
-ghost use Rattle.lamprecord.specs.Record.{lampCap, capped, lit, lights, nextBy, badCount, badRecord};
+ghost use Rattle.lamprecord.specs.Record.{lampCap, capped, lights, nextBy, badCount, badRecord};
 use pilots::PILOTS;
 
 // Counts are capped at this.

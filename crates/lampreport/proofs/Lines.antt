@@ -1,11 +1,11 @@
 -- Laws of a line as it is put together. Assumes nothing.
-use Prim.Native.Nat.{ℕ, zero, suc, _+_, _≤_, _<_}
+use Prim.Native.Nat.{ℕ, suc, _+_, _≤_, _<_}
 use mathlib.Core.Path.{_≡_, refl, sym, ap, _∙_}
 use mathlib.Core.List.{List, [], _∷_, _++_, append-nil, append-assoc}
 use native.Mathlib.Numerals.{add-one}
 use native.Mathlib.Omega.{arith}
 use lib.Dec.{eqb}
-use lib.ListN.{length, getD, set, take, length-append}
+use lib.ListN.{length, getD, set, take}
 use lib.Seq.{length-take-le, take-suc, take-suc-set}
 use Rattle.counting.specs.Search.{keep}
 use Rattle.text.specs.Text.{decimal}

@@ -4,7 +4,7 @@ use mathlib.Core.Path.{_≡_, refl, sym, ap, ap₂, _∙_}
 use mathlib.Core.Logic.{by-cases}
 use mathlib.Core.Bool.{Bool, true, false}
 use mathlib.Core.List.{List, [], _∷_, _++_, append-nil}
-use native.Mathlib.Nat.{zero-add, add-zero, add-suc}
+use native.Mathlib.Nat.{zero-add, add-zero}
 use native.Mathlib.Numerals.{add-one}
 use native.Mathlib.Decide.{decLt, ℕ-discrete}
 use native.Mathlib.Omega.{arith}
@@ -12,8 +12,8 @@ use lib.Dec.{eqb}
 use lib.ListN.{length, getD, set, replicate, length-set, length-replicate, length-append, List·getD-append, List·getD-eq-default}
 use lib.Seq.{getD-set-same, getD-set-other, getD-append-seam}
 use borrow.Author.Tests.{eq-eqb, ne-eqb}
-use Rattle.counting.specs.Search.{bit, sum, count, keep, those, tabulate}
-use Rattle.counting.proofs.Laws.{bit-false, count-lt, count-step, those-suc, length-those}
+use Rattle.counting.specs.Search.{bit, count, keep, those}
+use Rattle.counting.proofs.Laws.{bit-false, count-lt, those-suc, length-those}
 use Rattle.counting.proofs.Searches.{count-up}
 use Rattle.counting.proofs.Sums.{sum-none→}
 use Rattle.counting.proofs.Lists.{zeros, length-tabulate, getD-tabulate, is-tabulate}

@@ -1,15 +1,15 @@
 -- How many continuous pilots an accepted plan has: two for each distance, and one for each kind 3 record. Assumes nothing.
-use Prim.Native.Nat.{ℕ, zero, suc, _+_, _*_, _-_, _≤_, _<_}
-use mathlib.Core.Path.{_≡_, refl, sym, ap, ap₂, _∙_, subst}
-use mathlib.Core.Bool.{Bool, true, false, not, _&&_, _||_}
+use Prim.Native.Nat.{ℕ, _+_, _-_, _≤_, _<_}
+use mathlib.Core.Path.{_≡_, refl, sym, ap, _∙_, subst}
+use mathlib.Core.Bool.{Bool, true, false, _&&_, _||_}
 use mathlib.Core.Option.{Option, none, some}
-use mathlib.Core.List.{List, [], _∷_, map}
+use mathlib.Core.List.{List, [], _∷_}
 use native.Mathlib.Nat.{zero-add, le-refl}
 use native.Mathlib.Omega.{arith}
 use lib.Dec.{leb, ltb, eqb}
-use lib.ListN.{length, getD, length-map}
+use lib.ListN.{length, length-map}
 use borrow.Author.Tests.{lt-ltb, le-leb, eq-eqb, ne-eqb, eqb-true}
-use Rattle.counting.specs.Search.{bit, sum, count, when, orElse, lowest}
+use Rattle.counting.specs.Search.{bit, count, when, orElse}
 use Rattle.counting.proofs.Bools.{by-test, conflict, neither, or-true}
 use Rattle.counting.proofs.Laws.{count-false, count-ext, lowest-none, length-those}
 use Rattle.counting.proofs.Sums.{sum-cong, sum-add, count-eq}
@@ -20,13 +20,13 @@ use Rattle.rules.specs.Fits.{Fits}
 use Rattle.rules.specs.Plan.{Entry, Plan, planOf}
 use Rattle.rules.specs.Bands.{any, excluded}
 use Rattle.rules.specs.Roles.{oneOf, predefined, names, inPlc, continuous, continuousMark, firstMark, mark}
-use Rattle.rules.specs.Grounds.{_else_, ground?, outside, aroundPlc, pilotClash, pilotsMax, grounds6to15, grounds1to15}
+use Rattle.rules.specs.Grounds.{_else_, ground?, outside, aroundPlc, pilotClash, grounds6to15, grounds1to15}
 use Rattle.rules.proofs.Findings.{both-fine, no-place}
-use Rattle.roles.proofs.Eight.{away, eight-is, eight-long, beside, place}
+use Rattle.roles.proofs.Eight.{eight-is, eight-long, beside, place}
 use Rattle.roles.proofs.Testing.{off-plc}
 use Rattle.facts.proofs.Accepted.{later-fine, plc-in, few-pilots, pilots-below}
 use Rattle.facts.proofs.Few.{count-members}
-use Rattle.facts.proofs.Unranked.{lows, any-names, length-predefined}
+use Rattle.facts.proofs.Unranked.{lows, any-names}
 use Rattle.pilots.specs.Pilots.{pilotsMost, isContinuous, continuousPilots}
 use Rattle.pilots.specs.Claims.{Rising}
 

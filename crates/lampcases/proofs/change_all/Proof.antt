@@ -1,7 +1,7 @@
 -- `lampcases::change_all` ends: the changes that are left fall at each turn. Assumes nothing.
 use borrow.Author.Needs.{needs}
 use Prim.Native.Nat.{_-_}
-use mathlib.Core.Path.{_≡_, refl, _∙_}
+use mathlib.Core.Path.{_≡_, refl}
 use lib.ListN.{length}
 use Rattle.lampcases.proofs.change_all.Statement.{statement}
 use Rattle.lampcases.proofs.change_all.Tie as tie

@@ -1,6 +1,6 @@
 -- `lampcheck::hear_input` ends: the symbols that are left fall at each turn. Assumes nothing.
 use borrow.Author.Needs.{needs}
-use mathlib.Core.Path.{_≡_, refl, _∙_}
+use mathlib.Core.Path.{_≡_, refl}
 use lib.ListN.{length}
 use Rattle.lampcheck.proofs.hear_input.Statement.{statement}
 use Rattle.lampcheck.proofs.hear_input.Tie as tie

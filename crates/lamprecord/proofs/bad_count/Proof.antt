@@ -1,5 +1,4 @@
 -- `lamprecord::bad_count` meets its contract. Assumes nothing.
-use borrow.Author.Needs.{needs}
 use mathlib.Core.Path.{refl}
 use borrow.Author.Tests.{lt-ltb, le-ltb}
 use Rattle.lamprecord.proofs.bad_count.Statement.{statement}

@@ -1,7 +1,6 @@
 -- `lamprecord::count_at` meets its contract. Assumes nothing.
 use borrow.Author.Needs.{needs}
 use mathlib.Core.Path.{sym}
-use native.Mathlib.Omega.{arith}
 use lib.ListN.{List·getD-eq-default}
 use Rattle.lamprecord.proofs.count_at.Statement.{statement}
 use Rattle.lamprecord.proofs.count_at.Tie as tie

@@ -1,6 +1,6 @@
 -- `lamprecord::next_count` meets its contract. Assumes nothing.
 use borrow.Author.Needs.{needs}
-use mathlib.Core.Path.{refl, _∙_}
+use mathlib.Core.Path.{refl}
 use borrow.Author.Tests.{eq-eqb, ne-eqb}
 use Rattle.lamprecord.proofs.next_count.Statement.{statement}
 use Rattle.lamprecord.proofs.next_count.Tie as tie
