@@ -12,8 +12,8 @@ use Rattle.rules.specs.declared.CountAnswer.the-variants.{Refused}
 use Rattle.bytecells.specs.Octets.{cellsOf, odd}
 use Rattle.pilots.specs.Pilots.{pilotsMost, pilotsAnswer}
 use Rattle.lampgrounds.specs.declared.LampAnswer.{LampAnswer}
-use Rattle.lampgrounds.specs.Steps.{Lamping, lamps, lampStep}
-use Rattle.bytelamp.specs.ByteLamp.{putIf, leavesList, listed, leavesLamp, lamped, shortList, shortLights, pilotsBytes, lampBytes}
+use Rattle.lampgrounds.specs.Steps.{Hearing, leavesRecord, lampStep}
+use Rattle.bytelamp.specs.ByteLamp.{putIf, leavesList, listed, leavesLamp, withLights, shortList, shortLights, pilotsBytes, lampBytes}
 
 module _ (d : Device) (s l : List ℕ) where
   pub list-short : length l < 2 * pilotsMost → leavesList (Refused 21 0) l ≡ pilotsBytes d s l
@@ -33,11 +33,11 @@ module _ (d : Device) (s l : List ℕ) where
     unfolding lampBytes shortLights
     lamp-short h = rw (lt-ltb (length l) pilotsMost h, or-true (odd y)) refl
 
-    pub lamp-left : odd y ≡ false → pilotsMost ≤ length l → lamped (lampStep d s r (cellsOf y)) l ≡ lampBytes d s y r l
+    pub lamp-left : odd y ≡ false → pilotsMost ≤ length l → withLights (lampStep d s r (cellsOf y)) l ≡ lampBytes d s y r l
     unfolding lampBytes shortLights
     lamp-left e h = rw (e, le-ltb (length l) pilotsMost h) refl
 
     -- what the lamp answered and left over the cells, put into bytes
-    pub lamp-put : (m : LampAnswer) (counts left : List ℕ) (a : CountAnswer) → lamps m counts ≡ lampStep d s r (cellsOf y) → a ≡ m .answer → left ≡ putIf (m .answer) (m .lights) l
-        → leavesLamp a counts left ≡ lamped (lampStep d s r (cellsOf y)) l
-    lamp-put m counts left a step is put = (λ i. leavesLamp (is i) counts (put i)) ∙ ap (λ (x : Lamping). lamped x l) step
+    pub lamp-put : (m : LampAnswer) (counts left : List ℕ) (a : CountAnswer) → leavesRecord m counts ≡ lampStep d s r (cellsOf y) → a ≡ m .answer → left ≡ putIf (m .answer) (m .lights) l
+        → leavesLamp a counts left ≡ withLights (lampStep d s r (cellsOf y)) l
+    lamp-put m counts left a step is put = (λ i. leavesLamp (is i) counts (put i)) ∙ ap (λ (x : Hearing). withLights x l) step

@@ -14,7 +14,7 @@ use Rattle.rules.specs.declared.CountAnswer.the-variants.{Count, Refused}
 use Rattle.bytecells.specs.Octets.{cellsOf, bytesOf, odd}
 use Rattle.pilots.specs.declared.PilotAnswer.{PilotAnswer}
 use Rattle.pilots.specs.Pilots.{pilotsMost, pilotsAnswer}
-use Rattle.lampgrounds.specs.Steps.{Lamping, lampStep}
+use Rattle.lampgrounds.specs.Steps.{Hearing, lampStep}
 
 -- bytes at the start of a lent buffer, if nothing refuses; bytes past them are untouched
 abbrev pub putIf : CountAnswer → List ℕ → List ℕ → List ℕ
@@ -34,17 +34,17 @@ abbrev pub listed : PilotAnswer → List ℕ → ByteListing
 listed p l = leavesList (p .answer) (putIf (p .answer) (bytesOf (p .list)) l)
 
 -- what the lamp answers, and its record and the lent lights as it leaves them
-pub record ByteLamping : Type 0 where
+pub record ByteHearing : Type 0 where
   pub answer : CountAnswer
   pub counts : List ℕ
   pub lights : List ℕ
 
-abbrev pub leavesLamp : CountAnswer → List ℕ → List ℕ → ByteLamping
+abbrev pub leavesLamp : CountAnswer → List ℕ → List ℕ → ByteHearing
 leavesLamp a r l = record { answer = a; counts = r; lights = l }
 
 -- one byte a light
-abbrev pub lamped : Lamping → List ℕ → ByteLamping
-lamped m l = leavesLamp (m .answer .answer) (m .counts) (putIf (m .answer .answer) (m .answer .lights) l)
+abbrev pub withLights : Hearing → List ℕ → ByteHearing
+withLights m l = leavesLamp (m .answer .answer) (m .counts) (putIf (m .answer .answer) (m .answer .lights) l)
 
 -- 21: too short a buffer for two bytes a pilot, and for one byte a light
 unfoldable pub shortList : List ℕ → Bool
@@ -59,5 +59,5 @@ module _ (d : Device) (s : List ℕ) where
   pilotsBytes l = pick (shortList l) (leavesList (Refused 21 0) l) (listed (pilotsAnswer d s) l)
 
   -- the bytes of a symbol, the record, and the lent buffer for the lights
-  unfoldable pub lampBytes : List ℕ → List ℕ → List ℕ → ByteLamping
-  lampBytes y r l = pick (odd y || shortLights l) (leavesLamp (Refused 21 0) r l) (lamped (lampStep d s r (cellsOf y)) l)
+  unfoldable pub lampBytes : List ℕ → List ℕ → List ℕ → ByteHearing
+  lampBytes y r l = pick (odd y || shortLights l) (leavesLamp (Refused 21 0) r l) (withLights (lampStep d s r (cellsOf y)) l)

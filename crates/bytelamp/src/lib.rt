@@ -9,7 +9,7 @@ ghost use Rattle.rules.specs.Device.{khz50};
 ghost use Rattle.rules.specs.Fits.{Fits};
 ghost use Rattle.bytecells.specs.Octets.{cellsOf};
 ghost use Rattle.pilots.specs.Pilots.{pilotsMost};
-ghost use Rattle.lampgrounds.specs.Steps.{lamps, lampStep};
+ghost use Rattle.lampgrounds.specs.Steps.{leavesRecord, lampStep};
 ghost use Rattle.lampgrounds.specs.Opening.{cellsAt};
 ghost use Rattle.bytelamp.specs.ByteLamp.{leavesList, listed, leavesLamp, putIf, pilotsBytes, lampBytes};
 use counting::wide;
@@ -74,7 +74,7 @@ fn cells_at(list: [u16; PILOTS], symbol: &[u8]) -> [u16; PILOTS]
 // The lamp is given a symbol, for any device that fits.
 fn lamp_on(d: Device, plan: &[u8], symbol: &[u8], counts: &mut [u8]) -> LampAnswer
     requires { ⌜ Fits d ⌝ }
-    ensures { λ r. ⌜ lamps r (now (counts .exit)) ≡ lampStep d (now (plan .entry)) (now (counts .entry)) (cellsOf (now (symbol .entry))) ⌝ }
+    ensures { λ r. ⌜ leavesRecord r (now (counts .exit)) ≡ lampStep d (now (plan .entry)) (now (counts .entry)) (cellsOf (now (symbol .entry))) ⌝ }
 {
     let p = lampgrounds::open_step(d, plan, symbol.len() / 2, counts);
     let answer = p.answer;

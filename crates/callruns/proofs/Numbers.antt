@@ -44,7 +44,7 @@ use Rattle.runs.specs.Run.{isStarted, isListening, isSent, isReceived}
 use Rattle.pilots.specs.declared.PilotAnswer.{PilotAnswer}
 use Rattle.pilots.specs.Pilots.{continuousPilots, listing, noListing, pilotsAnswer}
 use Rattle.lamprecord.specs.Record.{lampCap, badRecord}
-use Rattle.lampgrounds.specs.Steps.{Lamping, lamps, noLights, lampGrounds, lampFinding, lampHears, lampStep}
+use Rattle.lampgrounds.specs.Steps.{Hearing, leavesRecord, noLights, lampGrounds, lampFinding, lampHears, lampStep}
 use Rattle.callruns.specs.Host.{isAccepted, isRole, isReasoned, isCount}
 
 -- why a subcarrier has its role is refused as the role is
@@ -301,4 +301,4 @@ module _ (d : Device) (s : List ℕ) where
   pub lamp-zero : (r y : List ℕ) → eqb (toldCount (lampStep d s r y .answer .answer) .number) 0 ≡ isCount (lampStep d s r y .answer .answer)
   unfolding lampStep lampHears
   lamp-zero r y =
-      by-ground (λ (m : Lamping). toldCount (m .answer .answer) .number) (λ m. isCount (m .answer .answer)) (lampFinding d s r (length y)) (lampHears d s r y) (λ n place. lamps (noLights n place) r) (lamp-numbered r (length y)) refl (λ n place. (refl, refl))
+      by-ground (λ (m : Hearing). toldCount (m .answer .answer) .number) (λ m. isCount (m .answer .answer)) (lampFinding d s r (length y)) (lampHears d s r y) (λ n place. leavesRecord (noLights n place) r) (lamp-numbered r (length y)) refl (λ n place. (refl, refl))

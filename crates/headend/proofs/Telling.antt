@@ -11,7 +11,7 @@ use Rattle.rules.specs.Steps.{Starting, starts, Sending, leaves}
 use Rattle.rules.specs.Receive.{Listening, listens, Receiving, hears}
 use Rattle.rules.specs.declared.CountAnswer.{CountAnswer}
 use Rattle.rules.specs.Filling.{Filling, fills}
-use Rattle.bytelamp.specs.ByteLamp.{ByteListing, leavesList, ByteLamping, leavesLamp}
+use Rattle.bytelamp.specs.ByteLamp.{ByteListing, leavesList, ByteHearing, leavesLamp}
 use Rattle.modulator.specs.declared.ModulateAnswer.{ModulateAnswer}
 use Rattle.modulator.specs.Symbols.{Modulating, modulates}
 use Rattle.answerbytes.specs.declared.Told.{Told}
@@ -43,8 +43,8 @@ module _ (n : ℕ) (a b : List ℕ) (t : Told) (en : n ≡ t .number) (eb : b �
   pub list-told : (r : CountAnswer) (l : List ℕ) (e : ByteListing) → t ≡ toldCount r → leavesList r l ≡ e → saysFill n l b ≡ listTold e a
   list-told r l e et es = rw (en, eb, et) (ap (λ (x : ByteListing). listTold x a) es)
 
-  pub lamp-told : (r : CountAnswer) (c l : List ℕ) (e : ByteLamping) → t ≡ toldCount r → leavesLamp r c l ≡ e → saysLamp n c l b ≡ lampTold e a
-  lamp-told r c l e et es = rw (en, eb, et) (ap (λ (x : ByteLamping). lampTold x a) es)
+  pub lamp-told : (r : CountAnswer) (c l : List ℕ) (e : ByteHearing) → t ≡ toldCount r → leavesLamp r c l ≡ e → saysLamp n c l b ≡ lampTold e a
+  lamp-told r c l e et es = rw (en, eb, et) (ap (λ (x : ByteHearing). lampTold x a) es)
 
   pub modulate-told : (r : ModulateAnswer) (l : List Float) (e : Modulating) → t ≡ toldModulate r → modulates r l ≡ e → saysNumbers n l b ≡ modulateTold e a
   modulate-told r l e et es = rw (en, eb, et) (ap (λ (x : Modulating). modulateTold x a) es)

@@ -13,7 +13,7 @@ use Rattle.rules.specs.Filling.{Filling}
 use Rattle.exclusion.specs.Trial.{trialOfNumbers}
 use Rattle.reasons.specs.Reasons.{whyAnswer}
 use Rattle.bytecells.specs.ByteSteps.{startBytes, listenBytes, emitBytes, flushBytes, receiveBytes, fillBytes, unfillBytes}
-use Rattle.bytelamp.specs.ByteLamp.{ByteListing, ByteLamping, pilotsBytes, lampBytes}
+use Rattle.bytelamp.specs.ByteLamp.{ByteListing, ByteHearing, pilotsBytes, lampBytes}
 use Rattle.modulator.specs.Symbols.{Modulating}
 use Rattle.bytemodulate.specs.ByteSymbols.{modulateBytes}
 use Rattle.answerbytes.specs.declared.Told.{Told}
@@ -96,7 +96,7 @@ fillTold r a = saysFill (toldCount (r .answer) .number) (r .left) (written a (to
 abbrev pub listTold : ByteListing → List ℕ → FillSaid
 listTold r a = saysFill (toldCount (r .answer) .number) (r .list) (written a (toldCount (r .answer)))
 
-abbrev pub lampTold : ByteLamping → List ℕ → LampSaid
+abbrev pub lampTold : ByteHearing → List ℕ → LampSaid
 lampTold r a = saysLamp (toldCount (r .answer) .number) (r .counts) (r .lights) (written a (toldCount (r .answer)))
 
 module _ (d : Device) (s : List ℕ) where

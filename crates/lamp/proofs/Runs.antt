@@ -24,10 +24,10 @@ use Rattle.pilots.specs.Pilots.{pilotsMost, continuousPilots}
 use Rattle.pilots.proofs.Numbers.{few}
 use Rattle.lamprecord.specs.Record.{lampCap, lit, lights, lampRecord}
 use Rattle.lamprecord.proofs.Afresh.{length-record, fresh-record, next-record, lights-afresh, good-record}
-use Rattle.lampgrounds.specs.Steps.{Lamping, lamps, shows, noLights, lampFinding, lampHears, lampStep}
+use Rattle.lampgrounds.specs.Steps.{Hearing, leavesRecord, shows, noLights, lampFinding, lampHears, lampStep}
 use Rattle.lampgrounds.proofs.Opened.{finding-fine, finding-17}
 use Rattle.lampgrounds.proofs.Heard.{step-refused, step-fine}
-use Rattle.lamp.specs.Run.{isHeard, Listened, given, givenAll, lampRun}
+use Rattle.lamp.specs.Run.{isHeard, LampState, afterOne, afterAll, lampRun}
 use Rattle.lamp.specs.Claims.{StepClaims, RunClaims, LampClaims}
 
 -- ---- any record and any symbol
@@ -41,14 +41,14 @@ module _ (d : Device) (s r : List ℕ) where
   unfolding answer-of lampHears
   answer-is y =
       by-finding (lampFinding d s r (length y))
-      (λ e. ap (λ (x : Lamping). x .answer .answer) (sym (step-fine d s r y e)) ∙ sym (ap answer-of e))
-      (λ n place e. ap (λ (x : Lamping). x .answer .answer) (sym (step-refused d s r y n place e)) ∙ sym (ap answer-of e))
+      (λ e. ap (λ (x : Hearing). x .answer .answer) (sym (step-fine d s r y e)) ∙ sym (ap answer-of e))
+      (λ n place e. ap (λ (x : Hearing). x .answer .answer) (sym (step-refused d s r y n place e)) ∙ sym (ap answer-of e))
 
   kept : (y : List ℕ) (n place : ℕ) → lampStep d s r y .answer .answer ≡ Refused n place → lampStep d s r y .counts ≡ r
   kept y n place h =
       by-finding (lampFinding d s r (length y))
       (λ e. absurd (not-refused (sym (ap answer-of e) ∙ sym (answer-is y) ∙ h)))
-      (λ g at e. ap (λ (x : Lamping). x .counts) (sym (step-refused d s r y g at e)))
+      (λ g at e. ap (λ (x : Hearing). x .counts) (sym (step-refused d s r y g at e)))
     where
       not-refused : answer-of Fine ≡ Refused n place → ⊥
       not-refused z = unfold answer-of in (let y : _≡_ {A = ℕ} 1 0 = ap (λ (a : CountAnswer). bit (isHeard a)) z in omega arith)
@@ -75,25 +75,25 @@ module _ (d : Device) (fits : Fits d) (s : List ℕ) (fine : grounds1to15 d s �
       sym (step-fine d s (after hs) y (finding-fine d s (after hs) (length y) fine (good-record lampCap ks hs) h))
       ∙ ap (shows (length ks)) (next-record lampCap ks y hs)
 
-  step-other : (hs : List (List ℕ)) (y : List ℕ) → (length y ≡ d .subcarriers → ⊥) → lampStep d s (after hs) y ≡ lamps (noLights 17 0) (after hs)
+  step-other : (hs : List (List ℕ)) (y : List ℕ) → (length y ≡ d .subcarriers → ⊥) → lampStep d s (after hs) y ≡ leavesRecord (noLights 17 0) (after hs)
   step-other hs y h = sym (step-refused d s (after hs) y 17 0 (finding-17 d s (after hs) (length y) fine (good-record lampCap ks hs) h))
 
   -- the record is that of all that was heard
-  abbrev Counted : Listened → Type 0
+  abbrev Counted : LampState → Type 0
   Counted l = l .counts ≡ after (l .heard)
 
-  counted-next : (l : Listened) (y : List ℕ) → Counted l → Counted (given (lampStep d s) l y)
-  unfolding given
+  counted-next : (l : LampState) (y : List ℕ) → Counted l → Counted (afterOne (lampStep d s) l y)
+  unfolding afterOne
   counted-next l y k =
       rw k
       (by-cases (ℕ-discrete (length y) (d .subcarriers))
       (λ e. rw (step-full (l .heard) y e) refl)
       (λ e. rw (step-other (l .heard) y e) refl))
 
-  counted-all : (l : Listened) (ys : List (List ℕ)) → Counted l → Counted (givenAll (lampStep d s) l ys)
-  unfolding givenAll
+  counted-all : (l : LampState) (ys : List (List ℕ)) → Counted l → Counted (afterAll (lampStep d s) l ys)
+  unfolding afterAll
   counted-all l [] k = k
-  counted-all l (y ∷ ys) k = counted-all (given (lampStep d s) l y) ys (counted-next l y k)
+  counted-all l (y ∷ ys) k = counted-all (afterOne (lampStep d s) l y) ys (counted-next l y k)
 
   counted-run : (ys : List (List ℕ)) → Counted (lampRun (lampStep d s) (length ks) ys)
   unfolding lampRun
@@ -126,12 +126,12 @@ module _ (d : Device) (fits : Fits d) (s : List ℕ) (fine : grounds1to15 d s �
       record {
         counted = is;
         afresh = λ i l. ap (λ (r : List ℕ). lit r i) is ∙ lights-afresh lampCap ks (omega arith) hs i l;
-        hears = λ y h. ap (λ (x : Lamping). x .answer .answer) (heard y h);
-        refuses = λ y h. ap (λ (r : List ℕ). lampStep d s r y .answer .answer) is ∙ ap (λ (x : Lamping). x .answer .answer) (step-other hs y h);
+        hears = λ y h. ap (λ (x : Hearing). x .answer .answer) (heard y h);
+        refuses = λ y h. ap (λ (r : List ℕ). lampStep d s r y .answer .answer) is ∙ ap (λ (x : Hearing). x .answer .answer) (step-other hs y h);
         answered = λ y h i l.
-            ap (λ (x : Lamping). getD (x .answer .lights) i 0) (heard y h)
+            ap (λ (x : Hearing). getD (x .answer .lights) i 0) (heard y h)
             ∙ light-at (after (y ∷ hs)) i (omega (arith, l, few d fits s fine)) ∙ ap bit (lights-afresh lampCap ks (omega arith) (y ∷ hs) i l);
-        past = λ y h i l. ap (λ (x : Lamping). getD (x .answer .lights) i 0) (heard y h) ∙ dark-past (after (y ∷ hs)) i (omega (arith, l, length-record lampCap ks (y ∷ hs)));
+        past = λ y h i l. ap (λ (x : Hearing). getD (x .answer .lights) i 0) (heard y h) ∙ dark-past (after (y ∷ hs)) i (omega (arith, l, length-record lampCap ks (y ∷ hs)));
       }
 
 pub lamp-claims : (d : Device) → Fits d → (s : List ℕ) → LampClaims d s

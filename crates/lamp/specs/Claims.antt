@@ -12,18 +12,18 @@ use Rattle.rules.specs.Plan.{planOf}
 use Rattle.rules.specs.Grounds.{verdict}
 use Rattle.pilots.specs.Pilots.{continuousPilots}
 use Rattle.lamprecord.specs.Record.{lampCap, lit, lampRecord, litAfresh}
-use Rattle.lampgrounds.specs.Steps.{Lamping, lampStep}
+use Rattle.lampgrounds.specs.Steps.{Hearing, lampStep}
 use Rattle.lamp.specs.Run.{lampRun}
 
 -- of every record and every symbol, with any bytes as a plan
-pub record StepClaims (step : List ℕ → List ℕ → Lamping) : Type 0 where
+pub record StepClaims (step : List ℕ → List ℕ → Hearing) : Type 0 where
   -- it never refuses on a cell: symbols of equal length are answered alike
   pub any-cells : (r y y′ : List ℕ) → length y ≡ length y′ → step r y .answer .answer ≡ step r y′ .answer .answer
   -- a refusal changes nothing
   pub stays : (r y : List ℕ) (n place : ℕ) → step r y .answer .answer ≡ Refused n place → step r y .counts ≡ r
 
 -- a lamp of pilots ks, on so many subcarriers, whose counts are capped at cap, from a fresh record on
-module _ (cap : ℕ) (ks : List ℕ) (width : ℕ) (step : List ℕ → List ℕ → Lamping) where
+module _ (cap : ℕ) (ks : List ℕ) (width : ℕ) (step : List ℕ → List ℕ → Hearing) where
   -- after these symbols were given, refused ones included
   pub record RunClaims (ys : List (List ℕ)) : Type 0 where
     -- the record is the capped number heard, then for each pilot the capped number in a row

@@ -7,7 +7,7 @@ use Rattle.counting.specs.Search.{pick}
 use Rattle.rules.specs.declared.CountAnswer.{CountAnswer}
 use Rattle.rules.specs.declared.CountAnswer.the-variants.{Count, Refused}
 use Rattle.lamprecord.specs.Record.{freshRecord}
-use Rattle.lampgrounds.specs.Steps.{Lamping}
+use Rattle.lampgrounds.specs.Steps.{Hearing}
 
 -- the symbol was heard: it was not refused
 abbrev pub isHeard : CountAnswer → Bool
@@ -15,24 +15,24 @@ isHeard (Count n) = true
 isHeard (Refused n place) = false
 
 -- a lamp between two symbols: its record, and all symbols that it heard, the latest first
-pub record Listened : Type 0 where
+pub record LampState : Type 0 where
   pub counts : List ℕ
   pub heard : List (List ℕ)
 
 -- a lamp that does `step` with the record and the symbol that it is given
-module _ (step : List ℕ → List ℕ → Lamping) where
+module _ (step : List ℕ → List ℕ → Hearing) where
   -- one symbol more is given
-  unfoldable pub given : Listened → List ℕ → Listened
-  given l y = record {
+  unfoldable pub afterOne : LampState → List ℕ → LampState
+  afterOne l y = record {
     counts = step (l .counts) y .counts;
     heard = pick (isHeard (step (l .counts) y .answer .answer)) (y ∷ l .heard) (l .heard);
   }
 
   -- all symbols of a list are given, in their order, refused ones included
-  unfoldable pub givenAll : Listened → List (List ℕ) → Listened
-  givenAll l [] = l
-  givenAll l (y ∷ ys) = givenAll (given l y) ys
+  unfoldable pub afterAll : LampState → List (List ℕ) → LampState
+  afterAll l [] = l
+  afterAll l (y ∷ ys) = afterAll (afterOne l y) ys
 
   -- from a fresh record of n pilots on
-  unfoldable pub lampRun : ℕ → List (List ℕ) → Listened
-  lampRun n ys = givenAll (record { counts = freshRecord n; heard = [] }) ys
+  unfoldable pub lampRun : ℕ → List (List ℕ) → LampState
+  lampRun n ys = afterAll (record { counts = freshRecord n; heard = [] }) ys

@@ -8,7 +8,7 @@ ghost use lib.ListN.{getD};
 ghost use Rattle.rules.specs.declared.Device.{Device};
 ghost use Rattle.rules.specs.Device.{khz50};
 ghost use Rattle.rules.specs.Fits.{Fits};
-ghost use Rattle.lampgrounds.specs.Steps.{lamps, lampStep};
+ghost use Rattle.lampgrounds.specs.Steps.{leavesRecord, lampStep};
 ghost use Rattle.lampgrounds.specs.Opening.{cellsAt};
 ghost use Rattle.lamp.specs.Claims.{LampClaims};
 use counting::wide;
@@ -43,7 +43,7 @@ fn cells_at(list: [u16; PILOTS], symbol: &[u16]) -> [u16; PILOTS]
 // The lamp is given a symbol, for any device that fits.
 fn lamp_on(d: Device, plan: &[u8], symbol: &[u16], counts: &mut [u8]) -> LampAnswer
     requires { ⌜ Fits d ⌝ }
-    ensures { λ r. ⌜ lamps r (now (counts .exit)) ≡ lampStep d (now (plan .entry)) (now (counts .entry)) (now (symbol .entry)) ⌝ }
+    ensures { λ r. ⌜ leavesRecord r (now (counts .exit)) ≡ lampStep d (now (plan .entry)) (now (counts .entry)) (now (symbol .entry)) ⌝ }
 {
     let p = lampgrounds::open_step(d, plan, symbol.len(), counts);
     let answer = p.answer;
@@ -56,7 +56,7 @@ fn lamp_on(d: Device, plan: &[u8], symbol: &[u16], counts: &mut [u8]) -> LampAns
 
 // The lamp is given a symbol: its record goes on, and its lights are answered with the number of pilots.
 pub fn lamp(plan: &[u8], symbol: &[u16], counts: &mut [u8]) -> LampAnswer
-    ensures { λ r. ⌜ lamps r (now (counts .exit)) ≡ lampStep khz50 (now (plan .entry)) (now (counts .entry)) (now (symbol .entry)) ⌝ }
+    ensures { λ r. ⌜ leavesRecord r (now (counts .exit)) ≡ lampStep khz50 (now (plan .entry)) (now (counts .entry)) (now (symbol .entry)) ⌝ }
 {
     lamp_on(rules::khz50_device(), plan, symbol, counts)
 }

@@ -18,11 +18,11 @@ use Rattle.bytecells.proofs.OctetLaws.{length-bytes, cells-bytes}
 use Rattle.pilots.specs.Pilots.{pilotsMost, continuousPilots}
 use Rattle.lamprecord.specs.Record.{lampCap, lights}
 use Rattle.lampgrounds.specs.declared.LampAnswer.{LampAnswer}
-use Rattle.lampgrounds.specs.Steps.{Lamping, lamps, lampFinding, lampHears, lampStep}
+use Rattle.lampgrounds.specs.Steps.{Hearing, leavesRecord, lampFinding, lampHears, lampStep}
 use Rattle.lampgrounds.proofs.Heard.{step-fine, step-refused}
 use Rattle.lamp.specs.Claims.{StepClaims, RunClaims}
 use Rattle.lamp.proofs.Runs.{lamp-claims}
-use Rattle.bytelamp.specs.ByteLamp.{ByteLamping, putIf, lamped, shortLights, lampBytes}
+use Rattle.bytelamp.specs.ByteLamp.{ByteHearing, putIf, withLights, shortLights, lampBytes}
 use Rattle.bytelamp.proofs.Bytes.{lamp-left}
 use Rattle.answerbytes.specs.Layout.{short}
 use Rattle.answers.specs.Answer.{toldCount}
@@ -48,11 +48,11 @@ module _ (d : Device) (s l : List ℕ) (room : pilotsMost ≤ length l) (r y : L
   unfolding taken lampHears lights
   lights-taken =
       by-finding (lampFinding d s r (length y))
-      (λ e. subst (λ (m : Lamping). taken (m .answer) l ≡ m .answer .lights) (step-fine d s r y e) (take-sets l _ pilotsMost (length-tabulate _ pilotsMost) room))
-      (λ n place e. subst (λ (m : Lamping). taken (m .answer) l ≡ m .answer .lights) (step-refused d s r y n place e) refl)
+      (λ e. subst (λ (m : Hearing). taken (m .answer) l ≡ m .answer .lights) (step-fine d s r y e) (take-sets l _ pilotsMost (length-tabulate _ pilotsMost) room))
+      (λ n place e. subst (λ (m : Hearing). taken (m .answer) l ≡ m .answer .lights) (step-refused d s r y n place e) refl)
 
 module _ (d : Device) (s l a : List ℕ) (lit : shortLights l ≡ false) (said : short a ≡ false) (r y : List ℕ) where
-  abbrev step : Lamping
+  abbrev step : Hearing
   step = lampStep d s r y
 
   room : pilotsMost ≤ length l
@@ -60,15 +60,15 @@ module _ (d : Device) (s l a : List ℕ) (lit : shortLights l ≡ false) (said :
   room = ltb-false (length l) pilotsMost lit
 
   -- over bytes
-  bytes : lampBytes d s (bytesOf y) r l ≡ lamped step l
-  bytes = sym (lamp-left d s l (bytesOf y) r (even-bytes y) room) ∙ ap (λ (c : List ℕ). lamped (lampStep d s r c) l) (cells-bytes y)
+  bytes : lampBytes d s (bytesOf y) r l ≡ withLights step l
+  bytes = sym (lamp-left d s l (bytesOf y) r (even-bytes y) room) ∙ ap (λ (c : List ℕ). withLights (lampStep d s r c) l) (cells-bytes y)
 
   -- the call
-  call : lampCall d s (bytesOf y) r l a ≡ lampTold (lamped step l) a
+  call : lampCall d s (bytesOf y) r l a ≡ lampTold (withLights step l) a
   unfolding lampCall
-  call = ap (λ (b : Bool). pick b (saysLamp 21 r l a) (lampTold (lampBytes d s (bytesOf y) r l) a)) said ∙ ap (λ (x : ByteLamping). lampTold x a) bytes
+  call = ap (λ (b : Bool). pick b (saysLamp 21 r l a) (lampTold (lampBytes d s (bytesOf y) r l) a)) said ∙ ap (λ (x : ByteHearing). lampTold x a) bytes
 
-  answer-read : countOf (toldIn (lampTold (lamped step l) a .said)) ≡ step .answer .answer
+  answer-read : countOf (toldIn (lampTold (withLights step l) a .said)) ≡ step .answer .answer
   answer-read = ap countOf (told-back a (toldCount (step .answer .answer)) (long a said)) ∙ count-back (step .answer .answer) (lamp-zero d s r y)
 
   lights-read : pick (eqb (toldCount (step .answer .answer) .number) 0) (take pilotsMost (putIf (step .answer .answer) (step .answer .lights) l)) (replicate pilotsMost 0) ≡ step .answer .lights
@@ -77,7 +77,7 @@ module _ (d : Device) (s l a : List ℕ) (lit : shortLights l ≡ false) (said :
       ∙ unfold taken in lights-taken d s l room r y
 
   call-read : callStep d s l a r y ≡ step
-  call-read = ap lampOf call ∙ (λ i. lamps (record { answer = answer-read i; lights = lights-read i }) (step .counts))
+  call-read = ap lampOf call ∙ (λ i. leavesRecord (record { answer = answer-read i; lights = lights-read i }) (step .counts))
 
 pub lamp-is-read : (d : Device) → Fits d → (s : List ℕ) → LampIsRead d s
 lamp-is-read d fits s l a lit said =
@@ -86,5 +86,5 @@ lamp-is-read d fits s l a lit said =
     record {
       read = call-read d s l a lit said;
       steps = subst StepClaims same (claims .steps);
-      runs = λ n e ys. subst (λ (step : List ℕ → List ℕ → Lamping). RunClaims lampCap (continuousPilots d (planOf s)) (d .subcarriers) step ys) same (claims .runs n e ys);
+      runs = λ n e ys. subst (λ (step : List ℕ → List ℕ → Hearing). RunClaims lampCap (continuousPilots d (planOf s)) (d .subcarriers) step ys) same (claims .runs n e ys);
     }

@@ -14,7 +14,7 @@ use Rattle.rules.specs.Grounds.{verdict}
 use Rattle.bytecells.specs.Octets.{bytesOf}
 use Rattle.pilots.specs.Pilots.{pilotsMost, continuousPilots}
 use Rattle.lamprecord.specs.Record.{lampCap}
-use Rattle.lampgrounds.specs.Steps.{Lamping, lamps, lampStep}
+use Rattle.lampgrounds.specs.Steps.{Hearing, leavesRecord, lampStep}
 use Rattle.lamp.specs.Claims.{StepClaims, RunClaims}
 use Rattle.bytelamp.specs.ByteLamp.{shortLights}
 use Rattle.answerbytes.specs.Layout.{short}
@@ -22,9 +22,9 @@ use Rattle.headend.specs.Calls.{LampSaid, lampCall}
 use Rattle.callruns.specs.CallEntries.{toldIn, countOf}
 
 -- how a host takes what a call said and left; the lights count only where the number is 0
-abbrev pub lampOf : LampSaid → Lamping
+abbrev pub lampOf : LampSaid → Hearing
 lampOf c =
-    lamps (record {
+    leavesRecord (record {
       answer = countOf (toldIn (c .said));
       lights = pick (eqb (c .said .number) 0) (take pilotsMost (c .lights)) (replicate pilotsMost 0);
     }) (c .counts)
@@ -32,7 +32,7 @@ lampOf c =
 -- the lent buffers for the lights and the answer
 module _ (d : Device) (s l a : List ℕ) where
   -- the lamp's step as a host does it: the record r, and a symbol y as the bytes of its cells
-  abbrev pub callStep : List ℕ → List ℕ → Lamping
+  abbrev pub callStep : List ℕ → List ℕ → Hearing
   callStep r y = lampOf (lampCall d s (bytesOf y) r l a)
 
   -- buffers that are long enough

@@ -20,7 +20,7 @@ use Rattle.pilots.proofs.Listing.{getD-padded}
 use Rattle.pilots.proofs.Numbers.{few}
 use Rattle.lamprecord.specs.Record.{lampCap, capped, holdsMark, nextBy, nextRecord}
 use Rattle.lamprecord.proofs.Steps.{good-length}
-use Rattle.lampgrounds.specs.Steps.{shows, lamps, noLights, lampFinding, lampHears, lampStep}
+use Rattle.lampgrounds.specs.Steps.{shows, leavesRecord, noLights, lampFinding, lampHears, lampStep}
 use Rattle.lampgrounds.specs.Opening.{opening, cellsAt, heardCells}
 use Rattle.lampgrounds.proofs.Opened.{opened-fine, opened-ground}
 
@@ -48,7 +48,7 @@ module _ (d : Device) (s r y : List ℕ) where
   abbrev ks : List ℕ
   ks = continuousPilots d (planOf s)
 
-  pub step-refused : (g place : ℕ) → lampFinding d s r (length y) ≡ Ground g place → lamps (noLights g place) r ≡ lampStep d s r y
+  pub step-refused : (g place : ℕ) → lampFinding d s r (length y) ≡ Ground g place → leavesRecord (noLights g place) r ≡ lampStep d s r y
   unfolding lampStep
   step-refused g place e = rw (e, lampStep) refl
 
@@ -81,5 +81,5 @@ module _ (d : Device) (fits : Fits d) (s r y : List ℕ) (p : PilotAnswer) (is :
       let f = opened-fine d s r (length y) m p is e in
       step-heard d s r y p m (f .finding) (f .list) (f .number) (few d fits s (f .grounds))
 
-  pub opened-refused : (g place : ℕ) → p .answer ≡ Refused g place → lamps (noLights g place) r ≡ lampStep d s r y
+  pub opened-refused : (g place : ℕ) → p .answer ≡ Refused g place → leavesRecord (noLights g place) r ≡ lampStep d s r y
   opened-refused g place e = step-refused d s r y g place (opened-ground d s r (length y) g place p is e)

@@ -11,7 +11,7 @@ use Rattle.rules.specs.Roles.{continuousMark}
 use Rattle.pilots.specs.declared.PilotAnswer.{PilotAnswer}
 use Rattle.pilots.specs.Pilots.{pilotsMost, continuousPilots, listing, noListing}
 use Rattle.lamprecord.specs.Record.{lampCap, nextBy}
-use Rattle.lampgrounds.specs.Steps.{Lamping, shows, lampFinding}
+use Rattle.lampgrounds.specs.Steps.{Hearing, shows, lampFinding}
 
 -- the record r and a symbol of n cells: the pilots, or the first ground
 unfoldable pub opening : Device → List ℕ → List ℕ → ℕ → PilotAnswer
@@ -22,5 +22,5 @@ unfoldable pub cellsAt : List ℕ → List ℕ → List ℕ
 cellsAt list y = tabulate (λ i. getD y (getD list i 0) 0) pilotsMost
 
 -- the record r of n pilots after a symbol with these cells at them, and its lights
-unfoldable pub heardCells : List ℕ → ℕ → List ℕ → Lamping
+unfoldable pub heardCells : List ℕ → ℕ → List ℕ → Hearing
 heardCells cells n r = shows n (nextBy lampCap (λ i. eqb (getD cells i 0) continuousMark) n r)

@@ -17,16 +17,16 @@ use Rattle.lamprecord.specs.Record.{lampCap, lights, nextRecord, badRecord}
 use Rattle.lampgrounds.specs.declared.LampAnswer.{LampAnswer}
 
 -- what the lamp answers, and its record as it leaves it
-pub record Lamping : Type 0 where
+pub record Hearing : Type 0 where
   pub answer : LampAnswer
   pub counts : List ℕ
 
-abbrev pub lamps : LampAnswer → List ℕ → Lamping
-lamps a r = record { answer = a; counts = r }
+abbrev pub leavesRecord : LampAnswer → List ℕ → Hearing
+leavesRecord a r = record { answer = a; counts = r }
 
 -- the record r of n pilots, and its lights
-abbrev pub shows : ℕ → List ℕ → Lamping
-shows n r = lamps (record { answer = Count n; lights = lights pilotsMost r }) r
+abbrev pub shows : ℕ → List ℕ → Hearing
+shows n r = leavesRecord (record { answer = Count n; lights = lights pilotsMost r }) r
 
 -- a refusal: zeros for lights, which count only where nothing refuses
 abbrev pub noLights : ℕ → ℕ → LampAnswer
@@ -42,9 +42,9 @@ module _ (d : Device) (s : List ℕ) where
   lampFinding r n = grounds1to15 d s else lampGrounds (continuousPilots d (planOf s)) (d .subcarriers) r n
 
   -- the symbol y is heard: the next record, and its lights
-  unfoldable pub lampHears : List ℕ → List ℕ → Lamping
+  unfoldable pub lampHears : List ℕ → List ℕ → Hearing
   lampHears r y = shows (length (continuousPilots d (planOf s))) (nextRecord lampCap (continuousPilots d (planOf s)) y r)
 
   -- the lamp with the record r is given the symbol y, under any bytes as a plan
-  unfoldable pub lampStep : List ℕ → List ℕ → Lamping
-  lampStep r y = elim (lampFinding r (length y)) [ Fine ↦ lampHears r y | Ground n place ↦ lamps (noLights n place) r ]
+  unfoldable pub lampStep : List ℕ → List ℕ → Hearing
+  lampStep r y = elim (lampFinding r (length y)) [ Fine ↦ lampHears r y | Ground n place ↦ leavesRecord (noLights n place) r ]

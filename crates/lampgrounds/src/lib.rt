@@ -6,7 +6,7 @@ ghost use lib.ListN.{length};
 ghost use Rattle.rules.specs.declared.CountAnswer.the-variants.{Count};
 ghost use Rattle.rules.specs.Fits.{Fits};
 ghost use Rattle.pilots.specs.Pilots.{pilotsMost, noListing, pilotsAnswer};
-ghost use Rattle.lampgrounds.specs.Steps.{lamps, noLights};
+ghost use Rattle.lampgrounds.specs.Steps.{leavesRecord, noLights};
 ghost use Rattle.lampgrounds.specs.Opening.{opening, heardCells};
 use pilots::PILOTS;
 use pilots::PilotAnswer;
@@ -77,7 +77,7 @@ pub fn open_step(d: Device, plan: &[u8], cells: usize, counts: &[u8]) -> PilotAn
 // A symbol is heard, whose cells at the n pilots are given: the record goes on, and its lights are answered.
 pub fn hear(cells: &[u16; PILOTS], n: u32, counts: &mut [u8]) -> LampAnswer
     requires { ⌜ (length (now cells) ≡ pilotsMost) × (n ≤ pilotsMost) × (length (now counts) ≡ suc n) ⌝ }
-    ensures { λ r. ⌜ lamps r (now (counts .exit)) ≡ heardCells (now (cells .entry)) n (now (counts .entry)) ⌝ }
+    ensures { λ r. ⌜ leavesRecord r (now (counts .exit)) ≡ heardCells (now (cells .entry)) n (now (counts .entry)) ⌝ }
 {
     lamprecord::advance(cells, n as usize, counts);
     LampAnswer {

@@ -9,13 +9,11 @@ ghost use Rattle.counting.specs.Search.{bit, pick, lowest, isNone};
 ghost use Rattle.rules.specs.Roles.{continuousMark};
 ghost use Rattle.pilots.specs.Pilots.{pilotsMost};
 ghost use Rattle.lamprecord.specs.Record.{lampCap, capped, lights, nextBy, badCount, badRecord};
+use pilots::CONTINUOUS;
 use pilots::PILOTS;
 
 // Counts are capped at this.
 const CAP: u8 = 128;
-
-// The mark of a continuous pilot.
-const CONTINUOUS: u16 = 0x8003;
 
 // Whether a count is above the cap or above the first.
 fn bad_count(first: u8, c: u8) -> bool

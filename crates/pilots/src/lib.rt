@@ -26,7 +26,7 @@ use rules::Verdict;
 pub const PILOTS: usize = 128;
 
 // The mark of a continuous pilot.
-const CONTINUOUS: u16 = 0x8003;
+pub const CONTINUOUS: u16 = 0x8003;
 
 // So many marks are read at a time.
 const BLOCK: usize = 16;
@@ -112,7 +112,7 @@ fn list_marked(marks: &[u16], width: usize) -> PilotAnswer
 }
 
 // The continuous pilots of an accepted plan, from its marks.
-fn list_accepted(d: Device, plan: &[u8], marks: &[u16; 4096]) -> PilotAnswer
+fn list_accepted(d: Device, plan: &[u8], marks: &[u16]) -> PilotAnswer
     requires { ⌜ Fits d × Studied d (now plan) (now marks) × (grounds1to15 d (now plan) ≡ Fine) ⌝ }
     ensures { λ r. ⌜ r ≡ listing (continuousPilots d (planOf (now (plan .entry)))) ⌝ }
 {

@@ -7,7 +7,7 @@ use lib.ListN.{length}
 use Rattle.bytecells.specs.Octets.{cellsOf}
 use Rattle.bytecells.proofs.OctetLaws.{length-cells}
 use Rattle.lampgrounds.specs.declared.LampAnswer.{LampAnswer}
-use Rattle.lampgrounds.specs.Steps.{lamps}
+use Rattle.lampgrounds.specs.Steps.{leavesRecord}
 use Rattle.lampgrounds.specs.Opening.{opening, heardCells}
 use Rattle.lampgrounds.proofs.Heard.{room, opened-heard, opened-refused}
 use Rattle.lampgrounds.proofs.Heard as heard
@@ -49,7 +49,7 @@ returns c =
     let s = c .before .before .before .before .before .before .before .before .before .before in
     let a = s .args in
     let list = c .before .before .before .before .before .open-step in
-    ap (λ (x : LampAnswer). lamps x (a .counts .now)) (c .refused .ensures)
+    ap (λ (x : LampAnswer). leavesRecord x (a .counts .now)) (c .refused .ensures)
     ∙ opened-refused (a .d) (s .pre) (a .plan .now) (a .counts .now) (cellsOf (a .symbol .now)) (list .result) (list .ensures ∙ halves s) _ _ (c .before .before .answer .given .1)
 
 same-length-2 : tie.Need-same-length-2

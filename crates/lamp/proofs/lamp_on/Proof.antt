@@ -5,7 +5,7 @@ use mathlib.Core.Path.{ap, _∙_}
 use mathlib.Core.List.{List}
 use lib.ListN.{length}
 use Rattle.lampgrounds.specs.declared.LampAnswer.{LampAnswer}
-use Rattle.lampgrounds.specs.Steps.{lamps}
+use Rattle.lampgrounds.specs.Steps.{leavesRecord}
 use Rattle.lampgrounds.specs.Opening.{heardCells}
 use Rattle.lampgrounds.proofs.Heard.{length-cells, room, opened-heard, opened-refused}
 use Rattle.lamp.proofs.lamp_on.Statement.{statement}
@@ -42,7 +42,7 @@ returns c =
     let s = c .before .before .before .before .before .before .before .before .before .before in
     let a = s .args in
     let list = c .before .before .before .before .before .open-step in
-    ap (λ (x : LampAnswer). lamps x (a .counts .now)) (c .refused .ensures)
+    ap (λ (x : LampAnswer). leavesRecord x (a .counts .now)) (c .refused .ensures)
     ∙ opened-refused (a .d) (s .pre) (a .plan .now) (a .counts .now) (a .symbol .now) (list .result) (list .ensures) _ _ (c .before .before .answer .given .1)
 
 same-length-2 : tie.Need-same-length-2

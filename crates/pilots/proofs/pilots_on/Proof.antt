@@ -17,6 +17,9 @@ enum-known-g c = search needs
 enum-told : tie.Need-enum-told
 enum-told c = search needs
 
+slice-aggregate-list-accepted : tie.Need-slice-aggregate-list-accepted
+slice-aggregate-list-accepted c = search needs
+
 list-accepted-requires : tie.Need-list-accepted-requires
 list-accepted-requires c κs =
     let s = c .before .before .before .before .before .before in
@@ -38,4 +41,4 @@ returns-2 c =
 pub pilots-on-spec : {M : Type 1} → statement M
 pilots-on-spec =
     tie.close
-    (tie.spec study-requires enum-known-g enum-told list-accepted-requires returns returns-2)
+    (tie.spec study-requires enum-known-g enum-told slice-aggregate-list-accepted list-accepted-requires returns returns-2)
