@@ -1,29 +1,26 @@
 /* Times the library beside the two C implementations, all in one run: in each round every implementation makes the same small batch of
  * calls, in turn, and what they leave is compared byte for byte. Each line gives the median round of each, in microseconds a call.
- * With bench/before.c, a library of an earlier version runs too; if it knows the 50 kHz device alone, in the lines of that device.
+ * With bench/before.c, a library of version 3 runs too: it takes no profile, and has no why, pilots, fill, unfill or lamp.
  *
  *     bench PLANS [ROUNDS]
  *
- * prints lines `plan, tab, call, tab, how long a symbol lasts`, tab, and a number for each implementation, 0 where it has no such line.
- * bench/run.sh builds it and makes the table. */
+ * prints lines `plan, tab, call`, tab, and a number for each implementation. bench/run.sh builds it and makes the table. */
 #define _POSIX_C_SOURCE 199309L
 #include "calls.h"
-#include "headend.h"
 
 #include <stdio.h>
 #include <stdlib.h>
 #include <string.h>
 #include <time.h>
 
-enum { SYMBOL = HEADEND_SYMBOL_BYTES_MAX, SUBCARRIERS = HEADEND_SUBCARRIERS_MAX, NUMBERS = HEADEND_NUMBERS_MAX };
-enum { DATA = HEADEND_DATA_BYTES_MAX, ANSWER = HEADEND_ANSWER_BYTES, PHASES = HEADEND_PHASES, TRUNKS = 16 };
+enum { SYMBOL = 8192, SUBCARRIERS = 4096, NUMBERS = 8192, DATA = 7490, ANSWER = 16, PHASES = 128, TRUNKS = 16 };
 enum { WARM = 2, TIMED = 16, BATCH = WARM + TIMED }; /* calls of a batch; the first are not timed, they bring the store into the cache */
 enum { TURNS = 3 };                                  /* turns of sixteen trunks, of which the first is not timed */
 enum { POOL = 8, MOST_ROUNDS = 4096 };
 enum { RUN = 64 };                                   /* subcarriers of one load, where loads come in runs */
-enum { STREAM = 65536, SYMBOL_BITS = 7 * DATA };     /* bytes of a stream, and the bits that a symbol takes at most */
-enum { LIST = HEADEND_PILOTS_BYTES, LIGHTS = HEADEND_LIGHTS_BYTES, RECORD = HEADEND_LAMP_RECORD_BYTES_MAX };
-enum call { JUDGE, TRY, ROLE, WHY, DATA_COUNT, FRESH_EMITTER, FRESH_RECEIVER, EMIT, FLUSH, RECEIVE, MODULATE, FILL, UNFILL, PILOTS, LAMP };
+enum { STREAM = 65536, SYMBOL_BITS = 52430 };        /* bytes of a stream, and the bits that a symbol takes at most */
+enum { LIST = 256, LIGHTS = 128, RECORD = 129 };     /* bytes of a list of pilots, of the lights, and of a lamp's record at most */
+enum call { JUDGE, TRY, WHY, EMIT, FLUSH, RECEIVE, MODULATE, FILL, UNFILL, PILOTS, LAMP };
 
 extern const struct calls library, best_gcc, best_clang, plain_gcc, plain_clang, before;
 static const struct calls *const ALL[] = {
@@ -57,17 +54,12 @@ struct bench {
 };
 
 static struct bench *bench[IMPLEMENTATIONS], *feed; /* feed: the emitter whose symbols the receivers get */
-static uint8_t plan[HEADEND_PLAN_BYTES_MAX], pool[POOL][DATA], arriving[TURNS * TRUNKS][SYMBOL];
+static uint8_t plan[4096], pool[POOL][DATA], arriving[TURNS * TRUNKS][SYMBOL];
 static uint8_t loads[SUBCARRIERS], minus[SUBCARRIERS];
 static uint8_t profile[SUBCARRIERS], stream[STREAM]; /* and the stream from which symbols are filled */
 static uint8_t fitting[BATCH][DATA];                 /* data of each call of a batch, within the limits of a mixed profile */
 static int mixed;                                    /* whether the profile is */
 static size_t plan_len;
-static struct {
-    uint32_t subcarriers;
-    size_t symbol, numbers;
-    int khz25;
-} device; /* of the plan */
 static uint32_t counts[PHASES];
 static uint8_t pilots[LIST];
 static uint32_t pilots_count;
@@ -115,7 +107,7 @@ static void set_profile(int is_mixed)
 {
     static const uint8_t listed[] = {0, 4, 6, 7, 8, 9, 10, 11, 12, 13, 14};
     mixed = is_mixed;
-    for (uint32_t k = 0; k < device.subcarriers; k++)
+    for (int k = 0; k < SUBCARRIERS; k++)
         profile[k] = mixed ? listed[chance() % sizeof listed] : 14;
     for (int i = 0; i < STREAM; i++)
         stream[i] = (uint8_t)chance();
@@ -127,17 +119,17 @@ static void fit_data(uint32_t phase)
     uint8_t answer[ANSWER];
     for (uint32_t i = 0; i < BATCH; i++) {
         uint32_t j = (phase + i) % PHASES;
-        if (best_gcc.fill(plan, plan_len, profile, device.subcarriers, j, stream, STREAM, chance() % 400000, fitting[i], 2 * counts[j],
-                          answer, ANSWER) != 0)
+        if (best_gcc.fill(plan, plan_len, profile, SUBCARRIERS, j, stream, STREAM, chance() % 400000, fitting[i], 2 * counts[j], answer,
+                          ANSWER) != 0)
             fail("a filling is refused");
     }
 }
 
 /* A listed load for each run of so many subcarriers, and a sign for each one's pilot. */
-static void fill_loads(uint32_t run)
+static void fill_loads(int run)
 {
     static const uint8_t listed[] = {1, 2, 4, 6, 7, 8, 9, 10, 11, 12, 13, 14};
-    for (uint32_t k = 0; k < device.subcarriers; k++) {
+    for (int k = 0; k < SUBCARRIERS; k++) {
         loads[k] = k % run == 0 ? listed[chance() % sizeof listed] : loads[k - 1];
         minus[k] = (uint8_t)(chance() & 1);
     }
@@ -146,7 +138,7 @@ static void fill_loads(uint32_t run)
 /* Data cells of a symbol become values below 2 to the load. */
 static void fit_loads(uint8_t *symbol)
 {
-    for (uint32_t k = 0; k < device.subcarriers; k++)
+    for (int k = 0; k < SUBCARRIERS; k++)
         if (symbol[2 * k] < 0x80) {
             uint32_t x = chance() & ((1u << loads[k]) - 1);
             symbol[2 * k] = (uint8_t)(x >> 8);
@@ -156,8 +148,7 @@ static void fit_loads(uint8_t *symbol)
 
 static uint32_t modulate(const struct calls *c, struct bench *b, int i, float *numbers)
 {
-    return c->modulate(arriving[i], device.symbol, loads, device.subcarriers, minus, device.subcarriers, numbers, device.numbers,
-                       b->answer[i], ANSWER);
+    return c->modulate(arriving[i], SYMBOL, loads, SUBCARRIERS, minus, SUBCARRIERS, numbers, NUMBERS, b->answer[i], ANSWER);
 }
 
 /* In one symbol of four a pilot loses its mark. */
@@ -175,66 +166,57 @@ static void move_bits(const struct calls *c, struct bench *b, enum call call, st
     if (t->start + SYMBOL_BITS > 8 * STREAM)
         t->start %= 8;
     if (call == FILL)
-        b->number[i] = c->fill(plan, plan_len, profile, device.subcarriers, t->phase, stream, STREAM, t->start, b->out[i], data_len,
-                               b->answer[i], ANSWER);
+        b->number[i] = c->fill(plan, plan_len, profile, SUBCARRIERS, t->phase, stream, STREAM, t->start, b->out[i], data_len, b->answer[i],
+                               ANSWER);
     else
-        b->number[i] = c->unfill(plan, plan_len, profile, device.subcarriers, t->phase, fitting[i], data_len, t->start, b->stream, STREAM,
+        b->number[i] = c->unfill(plan, plan_len, profile, SUBCARRIERS, t->phase, fitting[i], data_len, t->start, b->stream, STREAM,
                                  b->answer[i], ANSWER);
     t->phase = (t->phase + 1) % PHASES;
     t->start += get(b->answer[i] + 12);
 }
 
-/* A question about the plan: of the subcarriers role is asked all over the symbol, why about the last, which the last range excludes. */
-static uint32_t ask(const struct calls *c, enum call call, uint32_t i, uint8_t *out, uint8_t *answer)
-{
-    switch (call) {
-    case JUDGE: return c->judge(plan, plan_len, answer, ANSWER);
-    case TRY: return c->try(plan, plan_len, tried_first, tried_last, answer, ANSWER);
-    case ROLE: return c->role(plan, plan_len, 977 * i % device.subcarriers, i % PHASES, answer, ANSWER);
-    case WHY: return c->why(plan, plan_len, device.subcarriers - 1, i % PHASES, answer, ANSWER);
-    case DATA_COUNT: return c->data_count(plan, plan_len, i % PHASES, answer, ANSWER);
-    default: return c->pilots(plan, plan_len, out, LIST, answer, ANSWER);
-    }
-}
-
-/* A step of an emitter or a receiver. */
-static void step(const struct calls *c, struct bench *b, enum call call, struct trunk *t, int i)
-{
-    uint8_t *out = b->out[i], *answer = b->answer[i];
-    if (call == EMIT)
-        b->number[i] = c->emit(plan, plan_len, profile, device.subcarriers, t->phase, t->store, c->store_bytes,
-                               mixed ? fitting[i] : pool[i % POOL], 2 * counts[t->phase], out, device.symbol, answer, ANSWER);
-    if (call == FLUSH)
-        b->number[i] = c->flush(plan, plan_len, t->phase, t->store, c->store_bytes, out, device.symbol, answer, ANSWER);
-    if (call == RECEIVE)
-        b->number[i] = c->receive(plan, plan_len, profile, device.subcarriers, t->phase, t->heard, t->store, c->store_bytes, arriving[i],
-                                  device.symbol, out, DATA, answer, ANSWER);
-    t->phase = get(answer + 4);
-    t->heard = get(answer + 8);
-}
-
 /* One call of the batch, on one trunk; data and symbols are those of its number. */
 static void make(const struct calls *c, struct bench *b, enum call call, struct trunk *t, int i)
 {
-    switch (call) {
-    case FRESH_EMITTER:
-        b->number[i] = c->fresh_emitter(plan, plan_len, (uint32_t)i % PHASES, t->store, c->store_bytes, b->answer[i], ANSWER);
-        break;
-    case FRESH_RECEIVER:
-        b->number[i] = c->fresh_receiver(plan, plan_len, (uint32_t)i % PHASES, t->store, c->store_bytes, b->answer[i], ANSWER);
-        break;
-    case EMIT:
-    case FLUSH:
-    case RECEIVE: step(c, b, call, t, i); break;
-    case MODULATE: b->number[i] = modulate(c, b, i, b->numbers); break;
-    case FILL:
-    case UNFILL: move_bits(c, b, call, t, i); break;
-    case LAMP:
-        b->number[i] = c->lamp(plan, plan_len, arriving[i], device.symbol, b->record, 1 + pilots_count, b->out[i], LIGHTS, b->answer[i],
-                               ANSWER);
-        break;
-    default: b->number[i] = ask(c, call, (uint32_t)i, b->out[i], b->answer[i]);
+    uint8_t *out = b->out[i], *answer = b->answer[i];
+    if (call == JUDGE) {
+        b->number[i] = c->judge(plan, plan_len, answer, ANSWER);
+        return;
     }
+    if (call == TRY) {
+        b->number[i] = c->try(plan, plan_len, tried_first, tried_last, answer, ANSWER);
+        return;
+    }
+    if (call == WHY) { /* of the last subcarrier, which the last range excludes */
+        b->number[i] = c->why(plan, plan_len, SUBCARRIERS - 1, (uint32_t)i % PHASES, answer, ANSWER);
+        return;
+    }
+    if (call == MODULATE) {
+        b->number[i] = modulate(c, b, i, b->numbers);
+        return;
+    }
+    if (call == FILL || call == UNFILL) {
+        move_bits(c, b, call, t, i);
+        return;
+    }
+    if (call == PILOTS) {
+        b->number[i] = c->pilots(plan, plan_len, out, LIST, answer, ANSWER);
+        return;
+    }
+    if (call == LAMP) {
+        b->number[i] = c->lamp(plan, plan_len, arriving[i], SYMBOL, b->record, 1 + pilots_count, out, LIGHTS, answer, ANSWER);
+        return;
+    }
+    if (call == EMIT)
+        b->number[i] = c->emit(plan, plan_len, profile, SUBCARRIERS, t->phase, t->store, c->store_bytes,
+                               mixed ? fitting[i] : pool[i % POOL], 2 * counts[t->phase], out, SYMBOL, answer, ANSWER);
+    if (call == FLUSH)
+        b->number[i] = c->flush(plan, plan_len, t->phase, t->store, c->store_bytes, out, SYMBOL, answer, ANSWER);
+    if (call == RECEIVE)
+        b->number[i] = c->receive(plan, plan_len, profile, SUBCARRIERS, t->phase, t->heard, t->store, c->store_bytes, arriving[i], SYMBOL,
+                                  out, DATA, answer, ANSWER);
+    t->phase = get(answer + 4);
+    t->heard = get(answer + 8);
 }
 
 /* A batch of calls; the answer is the time of one. A modulator's tables come into the cache by a batch that is not timed. */
@@ -271,7 +253,6 @@ static void start(const struct calls *c, struct bench *b, enum call call, int tr
         t->heard = get(b->answer[0] + 8);
         t->start = 3;
     }
-    memset(b->out, 0, sizeof b->out);
     memset(b->stream, 0x5A, STREAM);
     memset(b->record, 0, RECORD);
 }
@@ -285,7 +266,7 @@ static void arrive(enum call call, int trunks)
     for (int i = 0; i < all; i++) {
         if (i % trunks == 0)
             make(&best_gcc, feed, EMIT, &feed->trunk[0], i);
-        memcpy(arriving[i], feed->out[i - i % trunks], device.symbol);
+        memcpy(arriving[i], feed->out[i - i % trunks], SYMBOL);
         if (call == MODULATE)
             fit_loads(arriving[i]);
         if (call == LAMP)
@@ -293,24 +274,25 @@ static void arrive(enum call call, int trunks)
     }
 }
 
-/* Whether an implementation knows the device of the plan. */
-static int knows(int n)
+static int has(int n, enum call call)
 {
-    return ALL[n]->devices == 2 || !device.khz25;
+    const struct calls *c = ALL[n];
+    return (call != TRY || c->try != NULL) && (call != WHY || c->why != NULL) && (call != MODULATE || c->modulate != NULL) &&
+           (call != FILL || c->fill != NULL) && (call != UNFILL || c->unfill != NULL) && (call != PILOTS || c->pilots != NULL) &&
+           (call != LAMP || c->lamp != NULL);
 }
 
 static void compare(enum call call, int trunks)
 {
     int all = trunks == 1 ? BATCH : TURNS * trunks;
-    for (int n = 1; n < IMPLEMENTATIONS; n++) {
+    int cells = call == EMIT || call == FLUSH || call == RECEIVE || call == FILL || call == PILOTS || call == LAMP;
+    for (int n = 1; n < IMPLEMENTATIONS && has(n, call); n++) {
         const struct bench *a = bench[0], *b = bench[n];
-        if (!knows(n))
-            continue;
         if (memcmp(a->number, b->number, (size_t)all * sizeof a->number[0]) != 0)
             fail("the numbers differ");
         if (memcmp(a->answer, b->answer, (size_t)all * ANSWER) != 0)
             fail("the answers differ");
-        if (memcmp(a->out, b->out, (size_t)all * SYMBOL) != 0)
+        if (cells && memcmp(a->out, b->out, (size_t)all * SYMBOL) != 0)
             fail("the symbols, the data, the lists or the lights differ");
         if (call == LAMP && memcmp(a->record, b->record, RECORD) != 0)
             fail("the records differ");
@@ -329,7 +311,7 @@ static void compare_stores(int trunks)
 {
     size_t size = ALL[0]->store_bytes;
     for (int n = 1; n < IMPLEMENTATIONS; n++)
-        for (int i = 0; knows(n) && i < trunks && ALL[n]->store_bytes == size; i++)
+        for (int i = 0; i < trunks && ALL[n]->store_bytes == size; i++)
             if (memcmp(bench[0]->trunk[i].store, bench[n]->trunk[i].store, size) != 0)
                 fail("the stores differ");
 }
@@ -343,12 +325,9 @@ static int rising(const void *a, const void *b)
 static void line(const char *name, const char *what, enum call call, int trunks, int rounds)
 {
     int settle = 40 / (trunks == 1 ? BATCH : TURNS) + 1; /* batches until no emitter or receiver is warming */
-    int stores = call >= FRESH_EMITTER && call <= RECEIVE, fed = call == RECEIVE || call == MODULATE || call == LAMP;
-    if (!knows(0))
-        return;
+    int steps = call == EMIT || call == FLUSH || call == RECEIVE, fed = call == RECEIVE || call == MODULATE || call == LAMP;
     for (int n = 0; n < IMPLEMENTATIONS; n++)
-        if (knows(n))
-            start(ALL[n], bench[n], call, trunks);
+        start(ALL[n], bench[n], call, trunks);
     if (fed)
         start(&best_gcc, feed, EMIT, 1);
     for (int round = -settle; round < rounds; round++) {
@@ -358,18 +337,17 @@ static void line(const char *name, const char *what, enum call call, int trunks,
             fit_data(bench[0]->trunk[0].phase);
         for (int n = 0; n < IMPLEMENTATIONS; n++) {
             int which = (n + (round < 0 ? 0 : round)) % IMPLEMENTATIONS;
-            double time = knows(which) ? batch(ALL[which], bench[which], call, trunks) : 0;
+            double time = has(which, call) ? batch(ALL[which], bench[which], call, trunks) : 0;
             if (round >= 0)
                 bench[which]->time[round] = time;
         }
-        for (int n = 0; call == MODULATE && n < IMPLEMENTATIONS; n++)
-            if (knows(n))
-                keep_numbers(ALL[n], bench[n]);
+        for (int n = 0; call == MODULATE && n < IMPLEMENTATIONS && has(n, call); n++)
+            keep_numbers(ALL[n], bench[n]);
         compare(call, trunks);
     }
-    if (stores)
+    if (steps)
         compare_stores(trunks);
-    printf("%s\t%s\t%s", name, what, device.khz25 ? "41.25" : "21.25");
+    printf("%s\t%s", name, what);
     for (int n = 0; n < IMPLEMENTATIONS; n++) {
         qsort(bench[n]->time, (size_t)rounds, sizeof(double), rising);
         printf("\t%.3f", bench[n]->time[rounds / 2]);
@@ -391,12 +369,8 @@ static void load(const char *folder, const char *name, uint32_t depth)
     fclose(file);
     if (depth != 0)
         plan[7] = (uint8_t)depth;
-    device.khz25 = headend_is_25khz(plan);
-    device.subcarriers = headend_subcarriers(plan);
-    device.symbol = headend_symbol_bytes(plan);
-    device.numbers = headend_numbers_count(plan);
     for (int n = 0; n < IMPLEMENTATIONS; n++)
-        for (uint32_t j = 0; knows(n) && j < PHASES; j++) {
+        for (uint32_t j = 0; j < PHASES; j++) {
             if (ALL[n]->data_count(plan, plan_len, j, answer, ANSWER) != 0)
                 fail("a plan is refused");
             if (n != 0 && counts[j] != get(answer + 12))
@@ -422,7 +396,7 @@ static void head(void)
         fclose(file);
     for (int n = 1; n < IMPLEMENTATIONS; n++)
         printf("# %s: %s, %s\n", ALL[n]->name, ALL[n]->compiler, FLAGS);
-    printf("# plan\tcall\tsymbol");
+    printf("# plan\tcall");
     for (int n = 0; n < IMPLEMENTATIONS; n++)
         printf("\t%s", ALL[n]->name);
     printf("\n");
@@ -441,68 +415,27 @@ static struct bench *make_bench(const struct calls *c)
     return b;
 }
 
-/* A plan of the folder, the depth that it is given (0: its own), and a range that may be tried on it. */
-struct subject {
-    const char *name, *file;
-    uint32_t depth, first, last;
-};
-
-/* The lines of every plan: questions, fresh starts and steps. */
-static void time_steps(const char *folder, const struct subject *p, int rounds)
-{
-    static const char *const calls[] = {"judge",         "try",            "role", "why",   "data count",
-                                        "fresh emitter", "fresh receiver", "emit", "flush", "receive"};
-    load(folder, p->file, p->depth);
-    set_profile(0);
-    tried_first = p->first;
-    tried_last = p->last;
-    for (enum call call = JUDGE; call <= RECEIVE; call++)
-        line(p->name, calls[call], call, 1, rounds);
-}
-
-/* The further lines of a largest plan: sixteen trunks, the modulator, bits, and mixed loads. */
-static void time_loads(const char *folder, const struct subject *p, int rounds)
-{
-    load(folder, p->file, p->depth);
-    set_profile(0);
-    line(p->name, "emit, 16 trunks", EMIT, TRUNKS, rounds / 4 + 1);
-    line(p->name, "receive, 16 trunks", RECEIVE, TRUNKS, rounds / 4 + 1);
-    fill_loads(1);
-    line(p->name, "modulate, mixed", MODULATE, 1, rounds);
-    fill_loads(RUN);
-    line(p->name, "modulate, runs", MODULATE, 1, rounds);
-    line(p->name, "fill", FILL, 1, rounds);
-    line(p->name, "unfill", UNFILL, 1, rounds);
-    set_profile(1);
-    line(p->name, "fill, mixed", FILL, 1, rounds);
-    line(p->name, "unfill, mixed", UNFILL, 1, rounds);
-    line(p->name, "emit, mixed", EMIT, 1, rounds);
-    line(p->name, "receive, mixed", RECEIVE, 1, rounds);
-}
-
 /* The lines of a lamp: a plan's pilots listed, and symbols heard. */
-static void time_lamps(const char *folder, const struct subject *p, int rounds)
+static void time_lamps(const char *folder, const char *file, uint32_t depth, const char *name, int rounds)
 {
     uint8_t answer[ANSWER];
-    load(folder, p->file, p->depth);
+    load(folder, file, depth);
     if (best_gcc.pilots(plan, plan_len, pilots, LIST, answer, ANSWER) != 0)
         fail("a list is refused");
     pilots_count = get(answer + 12);
     set_profile(0);
-    line(p->name, "pilots", PILOTS, 1, rounds);
-    line(p->name, "lamp", LAMP, 1, rounds);
+    line(name, "pilots", PILOTS, 1, rounds);
+    line(name, "lamp", LAMP, 1, rounds);
 }
 
 int main(int words, char **word)
 {
-    enum { PLAN_A, LARGEST = 4, PLAN_B = 7, LARGEST_25 = 9, PLANS };
-    static const struct subject plans[PLANS] = {
+    static const struct { const char *name, *file; uint32_t depth, first, last; } plans[] = {
         {"Plan A", "plan-a.plan", 0, 850, 853},          {"largest, M 1", "largest.plan", 1, 850, 853},
         {"largest, M 4", "largest.plan", 4, 850, 853},   {"largest, M 31", "largest.plan", 31, 850, 853},
         {"largest, M 32", "largest.plan", 32, 850, 853}, {"hostile", "overlapping-510.plan", 0, 850, 853},
-        {"150 singles", "singles-150.plan", 0, 850, 850}, /* 850 to 853 would be refused by 13 there */
-        {"Plan B", "plan-b.plan", 0, 1700, 1707},        {"25 kHz, M 4", "largest-25.plan", 4, 1700, 1707},
-        {"25 kHz, M 16", "largest-25.plan", 16, 1700, 1707}};
+        {"150 singles", "singles-150.plan", 0, 850, 850}}; /* 850 to 853 would be refused by 13 there */
+    static const char *const calls[] = {"judge", "try", "why", "emit", "flush", "receive"};
     int rounds = words > 2 ? atoi(word[2]) : 300;
     if (words < 2 || rounds < 1 || rounds > MOST_ROUNDS)
         fail("usage: bench PLANS [ROUNDS]");
@@ -510,14 +443,30 @@ int main(int words, char **word)
         bench[n] = make_bench(ALL[n]);
     feed = make_bench(&best_gcc);
     fill_pool();
+    set_profile(0);
     head();
-    for (int i = 0; i < PLANS; i++)
-        time_steps(word[1], &plans[i], rounds);
-    time_loads(word[1], &plans[LARGEST], rounds);
-    time_loads(word[1], &plans[LARGEST_25], rounds);
-    time_lamps(word[1], &plans[PLAN_A], rounds);
-    time_lamps(word[1], &plans[LARGEST], rounds);
-    time_lamps(word[1], &plans[PLAN_B], rounds);
-    time_lamps(word[1], &plans[LARGEST_25], rounds);
+    for (size_t i = 0; i < sizeof plans / sizeof plans[0]; i++) {
+        load(word[1], plans[i].file, plans[i].depth);
+        tried_first = plans[i].first;
+        tried_last = plans[i].last;
+        for (enum call call = JUDGE; call <= RECEIVE; call++)
+            line(plans[i].name, calls[call], call, 1, rounds);
+    }
+    load(word[1], "largest.plan", 32);
+    line("largest, M 32", "emit, 16 trunks", EMIT, TRUNKS, rounds / 4 + 1);
+    line("largest, M 32", "receive, 16 trunks", RECEIVE, TRUNKS, rounds / 4 + 1);
+    fill_loads(1);
+    line("largest, M 32", "modulate, mixed", MODULATE, 1, rounds);
+    fill_loads(RUN);
+    line("largest, M 32", "modulate, runs", MODULATE, 1, rounds);
+    line("largest, M 32", "fill", FILL, 1, rounds);
+    line("largest, M 32", "unfill", UNFILL, 1, rounds);
+    set_profile(1);
+    line("largest, M 32", "fill, mixed", FILL, 1, rounds);
+    line("largest, M 32", "unfill, mixed", UNFILL, 1, rounds);
+    line("largest, M 32", "emit, mixed", EMIT, 1, rounds);
+    line("largest, M 32", "receive, mixed", RECEIVE, 1, rounds);
+    time_lamps(word[1], "plan-a.plan", 0, "Plan A", rounds);
+    time_lamps(word[1], "largest.plan", 32, "largest, M 32", rounds);
     return 0;
 }

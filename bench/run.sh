@@ -4,9 +4,8 @@
 #
 #     bench/run.sh [ROUNDS]
 #
-# LIBRARY=FILE.a takes a library that is built already. BEFORE=FILE.a sets a library of version 5, which knows the 50 kHz device alone,
-# beside the others in the same run, so that each line of that device has the ratio to it. BEFORE_DEVICES=2 says that it knows both, as one
-# of version 6 does; LIBRARY_DEVICES=1 that LIBRARY knows the one alone: a library beside itself shows how far such ratios go astray.
+# LIBRARY=FILE.a takes a library that is built already. BEFORE=FILE.a sets a library of version 3, whose emit and receive take no
+# profile, beside the others in the same run.
 set -eu
 cd "$(dirname "$0")/.."
 rounds=${1:-300}
@@ -19,40 +18,40 @@ if [ -z "$library" ]; then
     library=target/staticlib/libheadend.a
 fi
 
-# table NAME SOURCE PREFIX DEVICES COMPILER...: an object whose one global name is the table of the calls.
+# table NAME SOURCE PREFIX COMPILER...: an object whose one global name is the table of the calls.
 table() {
-    name=$1 source=$2 prefix=$3 devices=$4
-    shift 4
-    "$@" $flags -Iinclude -Ibench -DTABLE="$name" -DSOURCE="\"$source\"" -DPREFIX="$prefix" -DDEVICES="$devices" -c bench/table.c \
-        -o $out/$name.o
+    name=$1 source=$2 prefix=$3
+    shift 3
+    "$@" $flags -Iinclude -Ibench -DTABLE="$name" -DSOURCE="\"$source\"" -DPREFIX="$prefix" -c bench/table.c -o $out/$name.o
     objcopy --keep-global-symbol="$name" $out/$name.o
 }
 
-table library headend.h headend_ "${LIBRARY_DEVICES:-2}" gcc
-table best_gcc best.c best_ 2 gcc
-table plain_gcc plain.c plain_ 2 gcc
+table library headend.h headend_ gcc
+table best_gcc best.c best_ gcc
+table plain_gcc plain.c plain_ gcc
 objects="$out/best_gcc.o $out/plain_gcc.o"
 with=
 clang=${CLANG:-/opt/rattle/on/x86_64/toolchain/bin/clang}
 # The kit's clang has no headers of its own: gcc's will do.
-if [ -x "$clang" ] && table best_clang best.c best_ 2 "$clang" -isystem "$(gcc -print-file-name=include)" 2>$out/clang.log &&
-    table plain_clang plain.c plain_ 2 "$clang" -isystem "$(gcc -print-file-name=include)" 2>$out/clang.log; then
+if [ -x "$clang" ] && table best_clang best.c best_ "$clang" -isystem "$(gcc -print-file-name=include)" 2>$out/clang.log &&
+    table plain_clang plain.c plain_ "$clang" -isystem "$(gcc -print-file-name=include)" 2>$out/clang.log; then
     objects="$objects $out/best_clang.o $out/plain_clang.o"
     with=-DWITH_CLANG
 else
     echo "no clang: best and plain C are gcc's alone"
 fi
 if [ -n "${BEFORE:-}" ]; then
-    calls="judge try role why data_count pilots fresh_emitter fresh_receiver emit flush receive fill unfill lamp modulate"
-    renamed=$(for call in $calls; do echo "--redefine-sym headend_$call=before_$call"; done)
+    renamed=$(for call in judge try role data_count fresh_emitter fresh_receiver emit flush receive modulate; do
+        echo "--redefine-sym headend_$call=before_$call"
+    done)
     objcopy $renamed "$BEFORE" $out/libbefore.a
-    table before before.c before_ "${BEFORE_DEVICES:-1}" gcc
-    gcc -r -nostdlib $out/before.o -Wl,--whole-archive $out/libbefore.a -o $out/whole.o
-    objcopy --keep-global-symbol=before $out/whole.o
-    objects="$objects $out/whole.o"
+    gcc $flags -Wall -Wextra -Ibench -c bench/before.c -o $out/calls.o
+    gcc -r -nostdlib $out/calls.o -Wl,--whole-archive $out/libbefore.a -o $out/before.o
+    objcopy --keep-global-symbol=before $out/before.o
+    objects="$objects $out/before.o"
     with="$with -DWITH_BEFORE"
 fi
-gcc -O2 -Wall -Wextra -Iinclude -Ibench $with -DFLAGS="\"$flags\"" -c bench/bench.c -o $out/bench.o
+gcc -O2 -Wall -Wextra -Ibench $with -DFLAGS="\"$flags\"" -c bench/bench.c -o $out/bench.o
 reversed=$(for o in $objects; do echo "$o"; done | tac | tr '\n' ' ')
 gcc $out/bench.o $out/library.o "$library" $objects -o $out/bench-1
 gcc $out/bench.o $reversed $out/library.o "$library" -o $out/bench-2

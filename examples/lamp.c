@@ -4,7 +4,6 @@
  *     rt staticlib headend
  *     gcc -O2 -Iinclude examples/lamp.c target/staticlib/libheadend.a -o lamp
  *     ./lamp plans/plan-a.plan
- *     ./lamp plans/plan-b.plan       # of the 25 kHz device
  *
  * A real lamp hears the symbols that come over the line, sound or not: it refuses no cell, and needs neither phase nor profile. Ends with 0
  * if the lights were what they should be. docs/C-HOST.md, "The pilot lamp", tells the rest. */
@@ -19,9 +18,8 @@ enum { START = 125, DAMAGED = 10, SYMBOLS = 150 }; /* a phase, the number of the
 struct plan {
     uint8_t bytes[HEADEND_PLAN_BYTES_MAX + 1]; /* one more than a plan may have, so that a longer file is refused */
     size_t len;
-    uint32_t depth, cells;          /* M and N_I */
-    size_t profile_len, symbol_len; /* of its device */
-    uint8_t profile[HEADEND_PROFILE_BYTES_MAX]; /* load 14 everywhere: a data cell is 0 to HEADEND_CELL_DATA_MAX */
+    uint32_t depth, cells; /* M and N_I */
+    uint8_t profile[HEADEND_PROFILE_BYTES]; /* load 14 everywhere: a data cell is 0 to HEADEND_CELL_DATA_MAX */
 };
 
 struct emitter {
@@ -60,8 +58,6 @@ static void read_plan(struct plan *p, const char *path)
     must("judge", headend_judge(p->bytes, p->len, answer, sizeof answer), answer);
     p->cells = headend_number(answer, HEADEND_VALUE);
     p->depth = headend_depth(p->bytes);
-    p->profile_len = headend_profile_bytes(p->bytes);
-    p->symbol_len = headend_symbol_bytes(p->bytes);
     memset(p->profile, 14, sizeof p->profile);
 }
 
@@ -89,8 +85,8 @@ static void emit(const struct plan *p, struct emitter *e, uint8_t *symbol, uint8
     for (uint32_t i = 0; i < count; i++)
         headend_put_cell(data, i, (e->phase * 4099 + i * 31) % (HEADEND_CELL_DATA_MAX + 1));
     must("emit",
-         headend_emit(p->bytes, p->len, p->profile, p->profile_len, e->phase, e->store, e->store_len, data, (size_t)2 * count, symbol,
-                      p->symbol_len, answer, HEADEND_ANSWER_BYTES),
+         headend_emit(p->bytes, p->len, p->profile, sizeof p->profile, e->phase, e->store, e->store_len, data, (size_t)2 * count, symbol,
+                      HEADEND_SYMBOL_BYTES, answer, HEADEND_ANSWER_BYTES),
          answer);
 }
 
@@ -100,7 +96,7 @@ static void send(const struct plan *p, struct emitter *e, uint32_t t, uint8_t *s
     uint8_t answer[HEADEND_ANSWER_BYTES];
     if (t % 3 == 2)
         must("flush",
-             headend_flush(p->bytes, p->len, e->phase, e->store, e->store_len, symbol, p->symbol_len, answer, sizeof answer),
+             headend_flush(p->bytes, p->len, e->phase, e->store, e->store_len, symbol, HEADEND_SYMBOL_BYTES, answer, sizeof answer),
              answer);
     else
         emit(p, e, symbol, answer);
@@ -125,7 +121,7 @@ static void make_lamp(const struct plan *p, struct lamp *l)
 
 static uint32_t hear(const struct plan *p, struct lamp *l, const uint8_t *symbol, size_t record_len, uint8_t *answer)
 {
-    return headend_lamp(p->bytes, p->len, symbol, p->symbol_len, l->record, record_len, l->lights, sizeof l->lights, answer,
+    return headend_lamp(p->bytes, p->len, symbol, HEADEND_SYMBOL_BYTES, l->record, record_len, l->lights, sizeof l->lights, answer,
                         HEADEND_ANSWER_BYTES);
 }
 
@@ -153,7 +149,7 @@ static void show_lights(const struct lamp *l, uint32_t t)
 /* The lamp hears every symbol; where the lights change they are shown. Answers after how many symbols the pilot was dark. */
 static uint32_t watch(const struct plan *p, struct emitter *e, struct lamp *l, uint32_t pilot)
 {
-    static uint8_t symbol[HEADEND_SYMBOL_BYTES_MAX];
+    static uint8_t symbol[HEADEND_SYMBOL_BYTES];
     uint8_t answer[HEADEND_ANSWER_BYTES], before[HEADEND_LIGHTS_BYTES] = {0};
     uint32_t dark = 0;
     for (uint32_t t = 0; t < SYMBOLS; t++) {

@@ -4,9 +4,7 @@
  *     rt staticlib headend
  *     gcc -O2 -Iinclude examples/link.c target/staticlib/libheadend.a -o link
  *     ./link plans/plan-a.plan
- *     ./link plans/plan-b.plan       # of the 25 kHz device
  *
- * The plan may be of either device: buffers have room for both, and the lengths that are passed are those of the plan's own.
  * A real host puts a line, or a file, between send() and hear(), and numbers its symbols: examples/trunks.c. docs/C-HOST.md tells the
  * rest. */
 #include "headend.h"
@@ -29,9 +27,8 @@ struct end {
 struct plan {
     uint8_t bytes[HEADEND_PLAN_BYTES_MAX + 1]; /* one more than a plan may have, so that a longer file is refused */
     size_t len;
-    uint32_t depth, cells;          /* M and N_I */
-    size_t profile_len, symbol_len; /* of its device */
-    uint8_t profile[HEADEND_PROFILE_BYTES_MAX];
+    uint32_t depth, cells; /* M and N_I */
+    uint8_t profile[HEADEND_PROFILE_BYTES];
 };
 
 /* What is under way: the stream, the symbol on the line, and the stream that comes back. A symbol's bits start where the last one's
@@ -40,7 +37,7 @@ struct traffic {
     uint8_t stream[STREAM_BYTES], back[STREAM_BYTES];
     size_t sent, returned; /* the bits at which the next symbol starts, in the one and in the other */
     uint8_t data[HEADEND_DATA_BYTES_MAX];
-    uint8_t line[HEADEND_SYMBOL_BYTES_MAX];
+    uint8_t line[HEADEND_SYMBOL_BYTES];
     uint32_t symbols; /* of data that came back */
 };
 
@@ -73,8 +70,6 @@ static void read_plan(struct plan *p, const char *path)
     must("judge", headend_judge(p->bytes, p->len, answer, sizeof answer), answer);
     p->cells = headend_number(answer, HEADEND_VALUE);
     p->depth = headend_depth(p->bytes);
-    p->profile_len = headend_profile_bytes(p->bytes);
-    p->symbol_len = headend_symbol_bytes(p->bytes);
     printf("%s: accepted, N_I %u, depth %u\n", path, (unsigned)p->cells, (unsigned)p->depth);
 }
 
@@ -82,7 +77,7 @@ static void read_plan(struct plan *p, const char *path)
 static void make_profile(struct plan *p)
 {
     static const uint8_t loads[8] = {14, 14, 0, 14, 4, 14, 9, 14};
-    for (size_t k = 0; k < p->profile_len; k++)
+    for (uint32_t k = 0; k < HEADEND_PROFILE_BYTES; k++)
         p->profile[k] = loads[k % 8];
 }
 
@@ -128,7 +123,7 @@ static size_t fill(const struct plan *p, const struct end *e, struct traffic *t)
     must("data_count", headend_data_count(p->bytes, p->len, e->phase, answer, sizeof answer), answer);
     size_t data_len = (size_t)2 * headend_number(answer, HEADEND_VALUE);
     must("fill",
-         headend_fill(p->bytes, p->len, p->profile, p->profile_len, e->phase, t->stream, sizeof t->stream, t->sent, t->data, data_len,
+         headend_fill(p->bytes, p->len, p->profile, sizeof p->profile, e->phase, t->stream, sizeof t->stream, t->sent, t->data, data_len,
                       answer, sizeof answer),
          answer);
     t->sent += headend_number(answer, HEADEND_VALUE);
@@ -137,8 +132,8 @@ static size_t fill(const struct plan *p, const struct end *e, struct traffic *t)
 
 static uint32_t emit(const struct plan *p, struct end *e, struct traffic *t, size_t data_len, uint8_t *answer)
 {
-    return headend_emit(p->bytes, p->len, p->profile, p->profile_len, e->phase, e->store, e->store_len, t->data, data_len, t->line,
-                        p->symbol_len, answer, HEADEND_ANSWER_BYTES);
+    return headend_emit(p->bytes, p->len, p->profile, sizeof p->profile, e->phase, e->store, e->store_len, t->data, data_len, t->line,
+                        sizeof t->line, answer, HEADEND_ANSWER_BYTES);
 }
 
 static void send(const struct plan *p, struct end *e, struct traffic *t, uint32_t symbol)
@@ -149,7 +144,7 @@ static void send(const struct plan *p, struct end *e, struct traffic *t, uint32_
         must("emit", emit(p, e, t, data_len, answer), answer);
     } else {
         must("flush",
-             headend_flush(p->bytes, p->len, e->phase, e->store, e->store_len, t->line, p->symbol_len, answer, sizeof answer),
+             headend_flush(p->bytes, p->len, e->phase, e->store, e->store_len, t->line, sizeof t->line, answer, sizeof answer),
              answer);
     }
     next_state(e, answer);
@@ -162,15 +157,15 @@ static void hear(const struct plan *p, struct end *e, struct traffic *t)
     uint8_t answer[HEADEND_ANSWER_BYTES];
     uint32_t sent_at = (e->phase + HEADEND_PHASES - (p->depth - 1)) % HEADEND_PHASES;
     must("receive",
-         headend_receive(p->bytes, p->len, p->profile, p->profile_len, e->phase, e->heard, e->store, e->store_len, t->line,
-                         p->symbol_len, t->data, sizeof t->data, answer, sizeof answer),
+         headend_receive(p->bytes, p->len, p->profile, sizeof p->profile, e->phase, e->heard, e->store, e->store_len, t->line,
+                         sizeof t->line, t->data, sizeof t->data, answer, sizeof answer),
          answer);
     next_state(e, answer);
     size_t data_len = (size_t)2 * headend_number(answer, HEADEND_VALUE);
     if (data_len == 0)
         return; /* warming */
     must("unfill",
-         headend_unfill(p->bytes, p->len, p->profile, p->profile_len, sent_at, t->data, data_len, t->returned, t->back, sizeof t->back,
+         headend_unfill(p->bytes, p->len, p->profile, sizeof p->profile, sent_at, t->data, data_len, t->returned, t->back, sizeof t->back,
                         answer, sizeof answer),
          answer);
     t->returned += headend_number(answer, HEADEND_VALUE);

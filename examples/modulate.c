@@ -5,7 +5,6 @@
  *     rt staticlib headend
  *     gcc -O2 -Iinclude examples/modulate.c target/staticlib/libheadend.a -o modulate
  *     ./modulate plans/plan-a.plan
- *     ./modulate plans/plan-b.plan   # of the 25 kHz device
  *
  * docs/MODULATOR.md has the layout of a modulator symbol. */
 #include "headend.h"
@@ -28,16 +27,13 @@ struct emitter {
     size_t store_len;
 };
 
-/* A symbol on the line, the load of each subcarrier in the profile and as the modulator has it, its sign, and the modulator symbol; and how
- * much of each the device of the plan has. The modulator is given no plan: it knows the device by the symbol's length. */
+/* A symbol on the line, the load of each subcarrier in the profile and as the modulator has it, its sign, and the modulator symbol. */
 struct line {
-    uint8_t symbol[HEADEND_SYMBOL_BYTES_MAX];
-    uint8_t profile[HEADEND_PROFILE_BYTES_MAX];
-    uint8_t loads[HEADEND_SUBCARRIERS_MAX];
-    uint8_t minus[HEADEND_SUBCARRIERS_MAX];
-    float numbers[HEADEND_NUMBERS_MAX];
-    size_t symbol_len, profile_len, numbers_count;
-    uint32_t subcarriers;
+    uint8_t symbol[HEADEND_SYMBOL_BYTES];
+    uint8_t profile[HEADEND_PROFILE_BYTES];
+    uint8_t loads[HEADEND_SUBCARRIERS];
+    uint8_t minus[HEADEND_SUBCARRIERS];
+    float numbers[HEADEND_NUMBERS];
 };
 
 static void must(const char *call, uint32_t refused, const uint8_t *answer)
@@ -76,19 +72,11 @@ static void start(const struct plan *p, struct emitter *e)
     e->phase = headend_number(answer, HEADEND_PHASE);
 }
 
-static void measure(const struct plan *p, struct line *l)
-{
-    l->symbol_len = headend_symbol_bytes(p->bytes);
-    l->profile_len = headend_profile_bytes(p->bytes);
-    l->numbers_count = headend_numbers_count(p->bytes);
-    l->subcarriers = headend_subcarriers(p->bytes);
-}
-
 /* A load for each subcarrier, and the minus sign for the pilots of those with an odd number. The modulator is given load 1 where the
  * profile has load 0. */
 static void make_loads(struct line *l)
 {
-    for (uint32_t k = 0; k < l->subcarriers; k++) {
+    for (uint32_t k = 0; k < HEADEND_SUBCARRIERS; k++) {
         l->profile[k] = (uint8_t)(k % 10 == 9 ? 0 : LEAST_LOAD + k % LOADS);
         l->loads[k] = (uint8_t)headend_point_load(l->profile[k]);
         l->minus[k] = (uint8_t)(k % 2);
@@ -104,19 +92,19 @@ static void emit(const struct plan *p, struct emitter *e, struct line *l, uint32
     for (uint32_t i = 0; i < sizeof stream; i++)
         stream[i] = (uint8_t)(t * 77 + i * i * 31 + i / 3);
     must("fill",
-         headend_fill(p->bytes, p->len, l->profile, l->profile_len, e->phase, stream, sizeof stream, 0, data, data_len, answer,
+         headend_fill(p->bytes, p->len, l->profile, sizeof l->profile, e->phase, stream, sizeof stream, 0, data, data_len, answer,
                       sizeof answer),
          answer);
     must("emit",
-         headend_emit(p->bytes, p->len, l->profile, l->profile_len, e->phase, e->store, e->store_len, data, data_len, l->symbol,
-                      l->symbol_len, answer, sizeof answer),
+         headend_emit(p->bytes, p->len, l->profile, sizeof l->profile, e->phase, e->store, e->store_len, data, data_len, l->symbol,
+                      sizeof l->symbol, answer, sizeof answer),
          answer);
     e->phase = headend_number(answer, HEADEND_PHASE);
 }
 
 static uint32_t modulate(struct line *l, uint8_t *answer)
 {
-    return headend_modulate(l->symbol, l->symbol_len, l->loads, l->subcarriers, l->minus, l->subcarriers, l->numbers, l->numbers_count,
+    return headend_modulate(l->symbol, sizeof l->symbol, l->loads, sizeof l->loads, l->minus, sizeof l->minus, l->numbers, HEADEND_NUMBERS,
                             answer, HEADEND_ANSWER_BYTES);
 }
 
@@ -124,7 +112,7 @@ static uint32_t modulate(struct line *l, uint8_t *answer)
 static uint32_t show(const struct line *l, uint32_t phase)
 {
     uint32_t silent = 0, open = 0, plus = 0, minus = 0, points = 0, first = 0;
-    for (uint32_t k = 0; k < l->subcarriers; k++)
+    for (uint32_t k = 0; k < HEADEND_SUBCARRIERS; k++)
         switch (headend_cell(l->symbol, k)) {
         case HEADEND_CELL_FILLER:
         case HEADEND_CELL_EXCLUDED: silent++; break;
@@ -143,7 +131,7 @@ static uint32_t show(const struct line *l, uint32_t phase)
 static void show_refusal(struct line *l, uint32_t k)
 {
     uint8_t answer[HEADEND_ANSWER_BYTES];
-    static float before[HEADEND_NUMBERS_MAX];
+    static float before[HEADEND_NUMBERS];
     memcpy(before, l->numbers, sizeof before);
     l->loads[k] = 5;
     uint32_t refused = modulate(l, answer);
@@ -166,7 +154,6 @@ int main(int argc, char **argv)
     }
     read_plan(&plan, argv[1]);
     start(&plan, &emitter);
-    measure(&plan, &line);
     make_loads(&line);
     for (uint32_t t = 0; t < plan.depth; t++) {
         uint32_t phase = emitter.phase;

@@ -6,7 +6,6 @@
  *     rt staticlib headend
  *     gcc -O2 -Iinclude examples/trunks.c target/staticlib/libheadend.a -o trunks
  *     ./trunks plans/plan-a.plan
- *     ./trunks plans/plan-b.plan     # of the 25 kHz device
  *
  * Ends with 0 if all came back as it should. docs/C-HOST.md, "After a refusal" and "A lost symbol", tells why a host does so. */
 #include "headend.h"
@@ -22,9 +21,8 @@ struct plan {
     uint8_t bytes[HEADEND_PLAN_BYTES_MAX + 1]; /* one more than a plan may have, so that a longer file is refused */
     size_t len;
     uint32_t depth, cells;          /* M and N_I */
-    size_t profile_len, symbol_len; /* of its device */
     uint32_t count[HEADEND_PHASES]; /* N_D at each phase, asked for once */
-    uint8_t profile[HEADEND_PROFILE_BYTES_MAX]; /* load 14 everywhere, for all trunks: a data cell is 0 to HEADEND_CELL_DATA_MAX */
+    uint8_t profile[HEADEND_PROFILE_BYTES]; /* load 14 everywhere, for all trunks: a data cell is 0 to HEADEND_CELL_DATA_MAX */
     uint32_t event;                 /* the number of the symbol that is lost, or comes with wrong cells */
     uint32_t symbols;               /* symbols of data that each trunk sends */
 };
@@ -39,7 +37,7 @@ struct end {
 /* What goes over the line: a symbol and its number. */
 struct numbered {
     uint32_t number;
-    uint8_t cells[HEADEND_SYMBOL_BYTES_MAX];
+    uint8_t cells[HEADEND_SYMBOL_BYTES];
 };
 
 struct trunk {
@@ -98,8 +96,6 @@ static void read_plan(struct plan *p, const char *path)
     must("judge", headend_judge(p->bytes, p->len, answer, sizeof answer), answer);
     p->cells = headend_number(answer, HEADEND_VALUE);
     p->depth = headend_depth(p->bytes);
-    p->profile_len = headend_profile_bytes(p->bytes);
-    p->symbol_len = headend_symbol_bytes(p->bytes);
     memset(p->profile, 14, sizeof p->profile);
     p->event = 2 * p->depth;
     p->symbols = 4 * p->depth + 4;
@@ -162,12 +158,12 @@ static void send(const struct plan *p, struct trunk *t, struct numbered *f)
         for (uint32_t i = 0; i < count; i++)
             headend_put_cell(data, i, data_cell(t, t->sent, i));
         must("emit",
-             headend_emit(p->bytes, p->len, p->profile, p->profile_len, e->phase, e->store, e->store_len, data, (size_t)2 * count,
-                          f->cells, p->symbol_len, answer, sizeof answer),
+             headend_emit(p->bytes, p->len, p->profile, sizeof p->profile, e->phase, e->store, e->store_len, data, (size_t)2 * count,
+                          f->cells, sizeof f->cells, answer, sizeof answer),
              answer);
     } else {
         must("flush",
-             headend_flush(p->bytes, p->len, e->phase, e->store, e->store_len, f->cells, p->symbol_len, answer,
+             headend_flush(p->bytes, p->len, e->phase, e->store, e->store_len, f->cells, sizeof f->cells, answer,
                            sizeof answer),
              answer);
     }
@@ -188,7 +184,7 @@ static uint32_t role(const struct plan *p, uint32_t subcarrier, uint32_t phase)
 static void make_wrong(const struct plan *p, uint32_t phase, struct numbered *f)
 {
     int seen[HEADEND_DATA + 1] = {0};
-    for (uint32_t k = 0; k < headend_subcarriers(p->bytes); k++) {
+    for (uint32_t k = 0; k < HEADEND_SUBCARRIERS; k++) {
         uint32_t r = role(p, k, phase);
         if (!seen[r])
             headend_put_cell(f->cells, k, 65535);
@@ -246,8 +242,8 @@ static void compare(const struct plan *p, struct trunk *t, uint32_t number, cons
 static uint32_t receive(const struct plan *p, struct trunk *t, const struct numbered *f, uint8_t *data, uint8_t *answer)
 {
     struct end *e = &t->receiver;
-    return headend_receive(p->bytes, p->len, p->profile, p->profile_len, e->phase, e->heard, e->store, e->store_len, f->cells,
-                           p->symbol_len, data, HEADEND_DATA_BYTES_MAX, answer, HEADEND_ANSWER_BYTES);
+    return headend_receive(p->bytes, p->len, p->profile, sizeof p->profile, e->phase, e->heard, e->store, e->store_len, f->cells,
+                           sizeof f->cells, data, HEADEND_DATA_BYTES_MAX, answer, HEADEND_ANSWER_BYTES);
 }
 
 static void hear(const struct plan *p, struct trunk *t, struct numbered *f)

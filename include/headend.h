@@ -1,9 +1,5 @@
 /* The head end's symbol path for a C host: libheadend.a, built by `rt staticlib headend`, for x86-64. docs/C-HOST.md tells more.
  *
- * There are two devices: one with 4,096 subcarriers 50 kHz apart and one with 8,192 subcarriers 25 kHz apart. The plan's first byte says
- * which: 4 is the 25 kHz device, anything else, and a plan of no bytes, the 50 kHz device (headend_is_25khz). headend_modulate, which is
- * given no plan, goes by the length of the symbol. Every call serves both.
- *
  * Every call returns the number of the ground that refuses it, 0 if none, and writes the rest of its answer into the first
  * HEADEND_ANSWER_BYTES bytes of `answer`, four numbers of four bytes each, high byte first (HEADEND_PLACE and so on say where).
  * A refused call writes its answer and changes no store, symbol, data, stream, lamp's record, list of pilots, lights or modulator symbol.
@@ -30,12 +26,9 @@ extern "C" {
 /* Grows by one whenever a call takes, answers or writes something else for the same bytes, or a name below has another value or goes;
  * from 5 on also when a call is added. A name or a helper that is added does not count. 1 was the interface as it came, 2 counts the
  * widths, 3 keeps one cell in a store for each symbol of delay and has no row, 4 gives headend_emit and headend_receive a load profile
- * after the plan, and has headend_fill and headend_unfill, 5 has headend_pilots and headend_lamp; all other calls are as in 4. 6 knows the
- * 25 kHz device: a plan whose first byte is 4, which 5 refuses by 2, and symbols of 8,192 cells; of every other plan and symbol each call
- * takes, answers and writes what it did in 5. Sizes have a name for each device and one for the larger, and 13 and 14 are named by the
- * windows' widths in MHz; HEADEND_SUBCARRIERS, _SYMBOL_BYTES, _NUMBERS, _PROFILE_BYTES, _REFUSED_WINDOW_OF_120 and _REFUSED_WINDOW_OF_20
- * have gone, and HEADEND_DATA_BYTES_MAX and HEADEND_STACK_BYTES have other values. Headers from before this name are of 1 or of 2. */
-#define HEADEND_VERSION 6
+ * after the plan, and has headend_fill and headend_unfill, 5 has headend_pilots and headend_lamp; all other calls are as in 4. Headers
+ * from before this name are of 1 or of 2. */
+#define HEADEND_VERSION 5
 
 /* The number that a call returns is not to be ignored: gcc and clang warn. */
 #ifdef __GNUC__
@@ -63,7 +56,7 @@ extern "C" {
 #define HEADEND_WHY_EXCLUDED 1     /* excluded; place: the record that excludes it, the first such on the chain */
 #define HEADEND_WHY_PLC 2          /* PLC; place: record 0 */
 #define HEADEND_WHY_PILOT_BELOW 3  /* continuous, predefined; place: the distance below L */
-#define HEADEND_WHY_PILOT_ABOVE 4  /* continuous, predefined; place: the distance above the last PLC subcarrier, L + 7 or L + 15 */
+#define HEADEND_WHY_PILOT_ABOVE 4  /* continuous, predefined; place: the distance above L + 7, the last PLC subcarrier */
 #define HEADEND_WHY_PILOT_RECORD 5 /* continuous; place: the record that makes it a pilot, the first such on the chain */
 #define HEADEND_WHY_SCATTERED 6    /* scattered; phase: the one that was passed, and the only one at which it is */
 #define HEADEND_WHY_DATA 7         /* data; phase: the one phase at which a scattered pilot stands there, never the one that was passed */
@@ -76,37 +69,18 @@ extern "C" {
 #define HEADEND_CELL_CONTINUOUS 0x8003u
 #define HEADEND_CELL_PLC 0x8004u
 
-/* Sizes that differ: of the 50 kHz device, of the 25 kHz device, and the larger, for a host that wants one buffer for any plan. The helpers
- * headend_subcarriers, headend_symbol_bytes, headend_profile_bytes and headend_numbers_count give those of a plan's device. */
-#define HEADEND_SUBCARRIERS_50KHZ 4096u    /* 0 to 4095 */
-#define HEADEND_SUBCARRIERS_25KHZ 8192u    /* 0 to 8191 */
-#define HEADEND_SUBCARRIERS_MAX 8192u
-#define HEADEND_DEPTH_50KHZ 32u            /* M is 1 to 32 */
-#define HEADEND_DEPTH_25KHZ 16u            /* M is 1 to 16 */
-#define HEADEND_DEPTH_MAX 32u
-#define HEADEND_SYMBOL_BYTES_50KHZ 8192u   /* a symbol: a cell for each subcarrier */
-#define HEADEND_SYMBOL_BYTES_25KHZ 16384u
-#define HEADEND_SYMBOL_BYTES_MAX 16384u
-#define HEADEND_PROFILE_BYTES_50KHZ 4096u  /* a load profile: one load for each subcarrier, 0, 4 or 6 to 14 */
-#define HEADEND_PROFILE_BYTES_25KHZ 8192u
-#define HEADEND_PROFILE_BYTES_MAX 8192u
-#define HEADEND_NUMBERS_50KHZ 8192u        /* a modulator symbol: two floats for each subcarrier */
-#define HEADEND_NUMBERS_25KHZ 16384u
-#define HEADEND_NUMBERS_MAX 16384u
-#define HEADEND_DATA_BYTES_50KHZ 7490u     /* more data cells than N_I no symbol has: 3745 */
-#define HEADEND_DATA_BYTES_25KHZ 15074u    /* 7537 */
-#define HEADEND_DATA_BYTES_MAX 15074u
-
-/* Sizes that both devices have. */
+#define HEADEND_SUBCARRIERS 4096u    /* 0 to 4095 */
 #define HEADEND_PHASES 128u          /* 0 to 127 */
+#define HEADEND_DEPTH_MAX 32u        /* M is 1 to 32 */
 #define HEADEND_PLAN_BYTES_MAX 4096u /* a plan: 8 bytes a record, up to 512 records */
+#define HEADEND_SYMBOL_BYTES 8192u   /* a symbol: 4,096 cells */
+#define HEADEND_NUMBERS 8192u        /* a modulator symbol: two floats for each subcarrier */
+#define HEADEND_DATA_BYTES_MAX 7490u /* more data cells than N_I no symbol has */
+#define HEADEND_PROFILE_BYTES 4096u  /* a load profile: one load for each subcarrier, 0, 4 or 6 to 14 */
 #define HEADEND_PILOTS 128u          /* the most continuous pilots that an accepted plan has: 8 and 120 */
 #define HEADEND_PILOTS_BYTES 256u    /* a list of pilots: two bytes each, high byte first */
 #define HEADEND_LIGHTS_BYTES 128u    /* the lights of a lamp: one for each pilot */
-#define HEADEND_STACK_BYTES 262144u  /* TO BE FILLED IN: some NNN,NNN were measured */
-
-/* The first byte of a plan of the 25 kHz device: its record 0 is of this kind. */
-#define HEADEND_KIND_25KHZ 4u
+#define HEADEND_STACK_BYTES 131072u  /* some 65,000 were measured */
 
 /* The largest number that a record can hold; headend_try refuses a larger one by 4. */
 #define HEADEND_RECORD_NUMBER_MAX 65535u
@@ -116,11 +90,10 @@ extern "C" {
 #define HEADEND_LAMP_RECORD_BYTES_MAX 129u
 #define HEADEND_LAMP_COUNT_MAX 128u
 
-/* The largest stores are those of the 50 kHz device, of N_I 3745 and M 32: 58,032 and 58,063 cells. Those of the 25 kHz device, of N_I 7537
- * and M 16, have 56,520 and 56,535 cells: 113,040 and 113,070 bytes. A plan needs E cells for an emitter's store, the sum of p mod M over
- * the N_I cells p: E = (N_I / M) * (M * (M - 1) / 2) + r * (r - 1) / 2, where r = N_I mod M and N_I / M is rounded down; and for a
- * receiver's N_I * (M - 1) - E cells, the sum of M - 1 - (p mod M). headend_emitter_store_bytes and headend_receiver_store_bytes give the
- * bytes. */
+/* The largest stores, those of N_I 3745 and M 32: 58,032 and 58,063 cells. A plan needs E cells for an emitter's store, the sum of p mod M
+ * over the N_I cells p: E = (N_I / M) * (M * (M - 1) / 2) + r * (r - 1) / 2, where r = N_I mod M and N_I / M is rounded down; and
+ * N_I * (M - 1) - E cells for a receiver's, the sum of M - 1 - (p mod M). headend_emitter_store_bytes and headend_receiver_store_bytes
+ * give the bytes. */
 #define HEADEND_EMITTER_STORE_BYTES_MAX 116064u
 #define HEADEND_RECEIVER_STORE_BYTES_MAX 116126u
 
@@ -129,47 +102,43 @@ extern "C" {
  * of what it is given, and refuses by the first that holds. headend_fill tries 21, 1 to 15, 25, 16, 18 and 26, headend_unfill after them
  * 19; neither tries 17. headend_try tries 21, then 1 to 5 of the plan, then 1 to 15 of its copy with one more range. headend_lamp tries 21,
  * 1 to 15, 28 and 17. headend_modulate, which is given no plan, tries 21, then 17, then 22 and 23 of each subcarrier before the next. 9 to
- * 12 count: the width of a band a to b is b - a + 1, the span is the highest active subcarrier less the lowest, plus one. Where the devices
- * differ the words have the numbers of the 50 kHz device, and those of the 25 kHz device stand behind, in the same order. A refused plan is
- * judged by the numbers of the device that its first byte says. */
+ * 12 count: the width of a band a to b is b - a + 1, the span is the highest active subcarrier less the lowest, plus one. */
 #define HEADEND_ACCEPTED 0u
 /* The plan's length is below 8, above 4,096 or not a multiple of 8. */
 #define HEADEND_REFUSED_PLAN_LENGTH 1u
-/* The kind is not 1 to 4, record 0 is not kind 1 or 4, a later one is, byte 1 is not zero, or a kind 3 second number is not zero
- * (record). */
+/* The kind is not 1 to 3, record 0 is not kind 1, a later one is, byte 1 is not zero, or a kind 3 second number is not zero (record). */
 #define HEADEND_REFUSED_RECORD_KIND 2u
 /* The next index is nonzero and not above the record's own, or not below the number of records (record). */
 #define HEADEND_REFUSED_NEXT_INDEX 3u
-/* L is outside 204 to 3885, M outside 1 to 32, a pilot or range end above 4095, or a range begins above its end (record). 25 kHz: 408 to
- * 7769, 1 to 16, 8191. */
+/* L is outside 204 to 3885, M outside 1 to 32, a pilot or range end above 4095, or a range begins above its end (record). */
 #define HEADEND_REFUSED_RECORD_NUMBERS 4u
 /* This is the 121st kind 3 record (record). */
 #define HEADEND_REFUSED_PILOT_COUNT 5u
-/* A subcarrier below 148 or above 3948 is active (lowest). 25 kHz: 296, 7896. */
+/* A subcarrier below 148 or above 3948 is active (lowest). */
 #define HEADEND_REFUSED_ACTIVE_OUTSIDE 6u
-/* A subcarrier of L - 56 to L + 63 is excluded (lowest). 25 kHz: L - 112 to L + 127. */
+/* A subcarrier of L - 56 to L + 63 is excluded (lowest). */
 #define HEADEND_REFUSED_EXCLUDED_AROUND_PLC 7u
 /* A kind 3 pilot is excluded, in the PLC, predefined, or named earlier on the chain (record, first on the chain). */
 #define HEADEND_REFUSED_PILOT_TAKEN 8u
-/* A band is narrower than 40 (its lowest subcarrier, lowest band). 25 kHz: 80. */
+/* A band is narrower than 40 (its lowest subcarrier, lowest band). */
 #define HEADEND_REFUSED_NARROW_BAND 9u
-/* No band has width 440 or more. 25 kHz: 880. */
+/* No band has width 440 or more. */
 #define HEADEND_REFUSED_NO_WIDE_BAND 10u
 /* Five times the excluded subcarriers between lowest and highest active exceeds the span. */
 #define HEADEND_REFUSED_EXCLUDED_IN_SPAN 11u
 /* Twenty times a band's individually excluded exceeds its width (its lowest subcarrier, lowest band). */
 #define HEADEND_REFUSED_EXCLUDED_IN_BAND 12u
-/* A window of 120 has more than 6 excluded (lowest window's first subcarrier). 25 kHz: 240, 12. */
-#define HEADEND_REFUSED_WINDOW_OF_6_MHZ 13u
-/* A window of 20 has more than 4 excluded (lowest window's first subcarrier). 25 kHz: 40, 8. */
-#define HEADEND_REFUSED_WINDOW_OF_1_MHZ 14u
-/* N_I exceeds 3745. 25 kHz: 7537. */
+/* A window of 120 has more than 6 excluded (lowest window's first subcarrier). */
+#define HEADEND_REFUSED_WINDOW_OF_120 13u
+/* A window of 20 has more than 4 excluded (lowest window's first subcarrier). */
+#define HEADEND_REFUSED_WINDOW_OF_20 14u
+/* N_I exceeds 3745. */
 #define HEADEND_REFUSED_RANKS 15u
 /* A phase, heard or subcarrier given is out of its range. */
 #define HEADEND_REFUSED_OUT_OF_RANGE 16u
-/* An emitter's store is shorter than the sum of p mod M over the N_I cells p, a receiver's than that of M - 1 - (p mod M), a symbol is not
- * 4,096 cells, a modulate is not given 4,096 loads, 4,096 signs and 8,192 numbers, or, where the answer would not be warming, the data
- * buffer is shorter than the count. 25 kHz: 8,192 cells; 8,192 loads, 8,192 signs and 16,384 numbers. */
+/* An emitter's store is shorter than the sum of p mod M over the N_I cells p, a receiver's than that of M - 1 - (p mod M), a symbol is
+ * not 4,096 cells, a modulate is not given 4,096 loads, 4,096 signs and 8,192 numbers, or, where the answer would not be warming, the data
+ * buffer is shorter than the count. */
 #define HEADEND_REFUSED_BUFFER_LENGTH 17u
 /* Other than N_D data cells are given: to the emitter, to be filled or for the way back. */
 #define HEADEND_REFUSED_DATA_COUNT 18u
@@ -184,8 +153,7 @@ extern "C" {
 #define HEADEND_REFUSED_LOAD 22u
 /* An unmarked cell is not below 2 to the load (its value, of the lowest subcarrier that 22 or 23 refuses). */
 #define HEADEND_REFUSED_VALUE 23u
-/* A profile is not 4,096 bytes, or else a load of it is not listed: 0, 4 and 6 to 14 are (0, or else the lowest such subcarrier). 25 kHz:
- * 8,192 bytes. */
+/* A profile is not 4,096 bytes, or else a load of it is not listed: 0, 4 and 6 to 14 are (0, or else the lowest such subcarrier). */
 #define HEADEND_REFUSED_PROFILE 25u
 /* Fewer bits remain in the stream from the start on than the loads of the symbol's data cells add up to; a start past the end leaves
  * none. */
@@ -200,10 +168,9 @@ uint32_t headend_judge(const uint8_t *plan, size_t plan_len, uint8_t *answer, si
 /* What one more excluded range, `first` to `last`, would do to a plan, before anybody touches it: the verdict on a copy of the plan in
  * which the last chain record points at a new last record, of kind 2, with that range and next index zero. Value: N_I of the copy. A plan
  * that 1 to 5 refuse gives that refusal; else the copy's verdict is given, 1 included: a plan of 4,096 bytes has a copy of 4,104 and gives
- * 1, whatever the range. A plan that 6 to 15 refuse is tried all the same: the range may mend it. A range that ends above 4095 (25 kHz:
- * 8191) or begins above its end is refused by 4 at the new record, whose index is the number of records of the plan, and so is a number
- * above HEADEND_RECORD_NUMBER_MAX, which no record can hold. The copy is of the plan's own device. Nothing but the answer is written.
- * Refuses by 1 to 15 and 21. */
+ * 1, whatever the range. A plan that 6 to 15 refuse is tried all the same: the range may mend it. A range that ends above 4095 or begins
+ * above its end is refused by 4 at the new record, whose index is the number of records of the plan, and so is a number above
+ * HEADEND_RECORD_NUMBER_MAX, which no record can hold. Nothing but the answer is written. Refuses by 1 to 15 and 21. */
 HEADEND_NOT_IGNORED
 uint32_t headend_try(const uint8_t *plan, size_t plan_len, uint32_t first, uint32_t last, uint8_t *answer, size_t answer_len);
 
@@ -241,10 +208,9 @@ HEADEND_NOT_IGNORED
 uint32_t headend_fresh_receiver(const uint8_t *plan, size_t plan_len, uint32_t phase, uint8_t *store, size_t store_len,
                                 uint8_t *answer, size_t answer_len);
 
-/* Emits one symbol: takes N_D data cells, writes the symbol on the line, and the store. Phase: the next state. `profile` has
- * headend_profile_bytes(plan) bytes, one load for each subcarrier, 0, 4 or 6 to 14, excluded ones too. A data cell is below 2 to the load
- * of the subcarrier it is emitted on, with load 0 it is 0 or 1. `data` is the whole input symbol and `symbol` has exactly
- * headend_symbol_bytes(plan) bytes. Refuses by 1 to 19, 21 and 25. */
+/* Emits one symbol: takes N_D data cells, writes the symbol on the line, and the store. Phase: the next state. `profile` has 4,096 bytes,
+ * one load for each subcarrier, 0, 4 or 6 to 14, excluded ones too. A data cell is below 2 to the load of the subcarrier it is emitted on,
+ * with load 0 it is 0 or 1. `data` is the whole input symbol and `symbol` exactly 8,192 bytes. Refuses by 1 to 19, 21 and 25. */
 HEADEND_NOT_IGNORED
 uint32_t headend_emit(const uint8_t *plan, size_t plan_len, const uint8_t *profile, size_t profile_len, uint32_t phase, uint8_t *store,
                       size_t store_len, const uint8_t *data, size_t data_len, uint8_t *symbol, size_t symbol_len, uint8_t *answer,
@@ -287,7 +253,7 @@ uint32_t headend_unfill(const uint8_t *plan, size_t plan_len, const uint8_t *pro
  * rising order, how many in a row up to the latest held the mark, each up to 128. It is for one plan, and nobody else writes it: another
  * plan needs a fresh one. The first HEADEND_LIGHTS_BYTES bytes of `lights` are 1 for a lit pilot and 0 for a dark one, in the order of
  * headend_pilots, 0 past the last; bytes past 128 are untouched. The lights count only where the call returned 0. Value: how many pilots
- * there are. `symbol` has exactly headend_symbol_bytes(plan) bytes. Refuses by 1 to 15, 17, 21 and 28. */
+ * there are. `symbol` is exactly 8,192 bytes. Refuses by 1 to 15, 17, 21 and 28. */
 HEADEND_NOT_IGNORED
 uint32_t headend_lamp(const uint8_t *plan, size_t plan_len, const uint8_t *symbol, size_t symbol_len, uint8_t *record, size_t record_len,
                       uint8_t *lights, size_t lights_len, uint8_t *answer, size_t answer_len);
@@ -296,9 +262,7 @@ uint32_t headend_lamp(const uint8_t *plan, size_t plan_len, const uint8_t *symbo
  * coordinate first. `loads` has a byte for each subcarrier, 1, 2, 4 or 6 to 14, pilots and silent ones too (headend_point_load makes one
  * of a profile's load); `minus` a byte for the sign of each one's pilot, 0 for plus, any other for minus. `numbers_count` counts floats.
  * Filler and excluded give 0 and 0, a pilot 2 or -2 and 0, data the scaled point of its value; the two floats of a PLC subcarrier are left
- * as they are. The device is that of the symbol's length: 8,192 cells are a symbol of the 25 kHz device, with 8,192 loads and signs and
- * 16,384 numbers, and any other symbol is judged by the 50 kHz device, with 4,096 cells, loads and signs and 8,192 numbers. Value: at a
- * refusal by 22 or 23 the subcarrier. Refuses by 17 and 21 to 23. docs/MODULATOR.md tells more. */
+ * as they are. Value: at a refusal by 22 or 23 the subcarrier. Refuses by 17 and 21 to 23. docs/MODULATOR.md tells more. */
 HEADEND_NOT_IGNORED
 uint32_t headend_modulate(const uint8_t *symbol, size_t symbol_len, const uint8_t *loads, size_t loads_len, const uint8_t *minus,
                           size_t minus_len, float *numbers, size_t numbers_count, uint8_t *answer, size_t answer_len);
@@ -322,35 +286,6 @@ static inline void headend_put_cell(uint8_t *cells, size_t i, uint32_t cell)
 {
     cells[2 * i] = (uint8_t)(cell >> 8 & 0xFFu);
     cells[2 * i + 1] = (uint8_t)(cell & 0xFFu);
-}
-
-/* Whether a plan, of at least one byte, is of the 25 kHz device. If it is accepted, its device is the one that its first byte says; a plan
- * that is refused is refused by that device's numbers. */
-static inline int headend_is_25khz(const uint8_t *plan)
-{
-    return plan[0] == HEADEND_KIND_25KHZ;
-}
-
-/* How many subcarriers the device of a plan has, which is also the number of loads and of signs that headend_modulate is given. */
-static inline uint32_t headend_subcarriers(const uint8_t *plan)
-{
-    return headend_is_25khz(plan) ? HEADEND_SUBCARRIERS_25KHZ : HEADEND_SUBCARRIERS_50KHZ;
-}
-
-/* The bytes of a symbol of a plan's device, of a load profile, and the floats of a modulator symbol. */
-static inline size_t headend_symbol_bytes(const uint8_t *plan)
-{
-    return headend_is_25khz(plan) ? HEADEND_SYMBOL_BYTES_25KHZ : HEADEND_SYMBOL_BYTES_50KHZ;
-}
-
-static inline size_t headend_profile_bytes(const uint8_t *plan)
-{
-    return headend_is_25khz(plan) ? HEADEND_PROFILE_BYTES_25KHZ : HEADEND_PROFILE_BYTES_50KHZ;
-}
-
-static inline size_t headend_numbers_count(const uint8_t *plan)
-{
-    return headend_is_25khz(plan) ? HEADEND_NUMBERS_25KHZ : HEADEND_NUMBERS_50KHZ;
 }
 
 /* L, the lowest PLC subcarrier of an accepted plan. */
@@ -417,24 +352,13 @@ static inline uint32_t headend_mark(uint32_t role)
     }
 }
 
-/* The one phase at which the scattered pattern of an accepted plan meets a subcarrier of its device. Let x be the subcarrier less the first
- * one above the PLC, modulo 128. On the 50 kHz device k is scattered at phase j if k - (L + 8) - j is a multiple of 128, so the phase is x.
- * On the 25 kHz device, if k - (L + 16) - 2 j is one, for j below 64, and k - (L + 16) - 2 (j - 64) - 1 for the later ones: the phase is
- * x / 2 where x is even and 64 + x / 2, rounded down, where it is odd. */
-static inline uint32_t headend_pattern_phase(const uint8_t *plan, uint32_t subcarrier)
-{
-    uint32_t above = headend_lowest_plc(plan) + (headend_is_25khz(plan) ? 16u : 8u);
-    uint32_t x = (subcarrier + HEADEND_SUBCARRIERS_MAX - above) % HEADEND_PHASES;
-    return headend_is_25khz(plan) ? x / 2u + 64u * (x % 2u) : x;
-}
-
-/* The phase of a symbol of headend_symbol_bytes(plan) bytes as it was emitted, by its lowest scattered placeholder. HEADEND_PHASES if it
- * has none, as at a phase at which no subcarrier is scattered. */
+/* The phase of a symbol of 8,192 bytes as it was emitted, by its lowest scattered placeholder: k is scattered at phase j if k - (L + 8) - j
+ * is a multiple of 128. HEADEND_PHASES if it has none, as at a phase at which no subcarrier is scattered. */
 static inline uint32_t headend_symbol_phase(const uint8_t *plan, const uint8_t *symbol)
 {
-    for (uint32_t k = 0; k < headend_subcarriers(plan); k++)
+    for (uint32_t k = 0; k < HEADEND_SUBCARRIERS; k++)
         if (headend_cell(symbol, k) == HEADEND_CELL_SCATTERED)
-            return headend_pattern_phase(plan, k);
+            return (k + HEADEND_SUBCARRIERS - headend_lowest_plc(plan) - 8u) % HEADEND_PHASES;
     return HEADEND_PHASES;
 }
 

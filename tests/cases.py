@@ -6,10 +6,9 @@
 
 stdin holds, for each case, its length as four bytes, high byte first, and
 then the plan; the end of the input ends the list.  stdout holds the line of
-each case, those of the 25 kHz device after all others.  Before anything is
-written, every line is held against the one worked out by hand, and the model
-against the facts that the scope paper gives of Plan A, and against those worked
-out by hand of Plan B.
+each case.  Before anything is written, every line is held against the one
+worked out by hand, and the model against the facts that the scope paper gives
+of Plan A.
 """
 
 import sys
@@ -31,7 +30,7 @@ def check_facts():
     """What the scope paper says of Plan A beside the verdicts."""
     a = plans.PLAN_A
     assert model.verdict(a) == ('ok', 425)
-    assert model.predefined(1, 972) == [925, 937, 948, 957, 994, 1003, 1014, 1026]
+    assert model.predefined(972) == [925, 937, 948, 957, 994, 1003, 1014, 1026]
     assert model.scattered(a, 0) == [852, 980, 1108, 1236]
     assert model.scattered(a, 125) == [849, 1105, 1233]
     assert model.scattered(a, 14) == [866, 1122]
@@ -49,42 +48,18 @@ def check_facts():
     assert model.role(a, 0, 128) == ('refused', 16, 0)
     assert model.role(b'', 4096, 128) == ('refused', 1, 0)
     # Over 128 phases each rank is scattered exactly once.
-    for data in (a, plans.LARGEST, plans.SINGLES_150, plans.PLAN_B, plans.LARGEST_25):
+    for data in (a, plans.LARGEST, plans.SINGLES_150):
         seen = Counter()
         for phase in range(model.PHASES):
             seen.update(model.scattered(data, phase))
         assert seen == Counter(model.ranks(data))
 
 
-def check_facts_25():
-    """Plan B: 1600 to 2481 active, PLC 1944 to 1959, so the grid of phase 0 has 1960.  Phases
-    0 to 63 stand on the grids at even distances from it, 64 to 127 on those at odd ones."""
-    b = plans.PLAN_B
-    assert model.verdict(b) == ('ok', 882 - 16 - 8)
-    assert model.predefined(4, 1944) == [1850, 1874, 1896, 1914, 1989, 2007, 2029, 2053]
-    assert model.scattered(b, 0) == [1704, 1832, 1960, 2088, 2216, 2344, 2472]
-    assert model.scattered(b, 1) == [1706, 1834, 1962, 2090, 2218, 2346, 2474]
-    assert model.scattered(b, 63) == [1702, 1830, 2086, 2214, 2342, 2470]           # 1958 is PLC
-    assert model.scattered(b, 64) == [1705, 1833, 1961, 2089, 2217, 2345, 2473]
-    assert model.scattered(b, 127) == [1703, 1831, 2087, 2215, 2343, 2471]          # 1959 is PLC
-    assert model.scattered(b, 78) == [1605, 1733, 1861, 2117, 2245, 2373]           # 1989 is continuous
-    ranks = model.ranks(b)
-    assert (ranks[104], ranks[857]) == (1704, 2481)
-    assert model.role(b, 1960, 0) == 'scattered'
-    assert model.role(b, 1959, 127) == 'plc'
-    assert model.role(b, 8191, 127) == 'excluded'
-    assert model.role(b, 8192, 0) == ('refused', 16, 0)
-    assert model.role(plans.PLAN_A, 8191, 0) == ('refused', 16, 0)
-    assert model.predefined(4, 408) == [314, 338, 360, 378, 453, 471, 493, 517]
-    assert model.predefined(4, 7769) == [7675, 7699, 7721, 7739, 7814, 7832, 7854, 7878]
-    assert model.predefined(4, 407) == model.predefined(4, 7770) == model.predefined(1, 7769) == [0] * 8
-
-
 def make():
     """The bytes of stdin and stdout, and the lines."""
     given, lines = b'', []
     names = set()
-    for name, data, want in plans.all_cases() + plans.all_cases_25():
+    for name, data, want in plans.all_cases():
         assert name not in names, 'two cases named ' + name
         names.add(name)
         assert len(data) <= LONGEST_CASE, name
@@ -97,7 +72,6 @@ def make():
 
 def main():
     check_facts()
-    check_facts_25()
     given, wanted, lines = make()
     counts = Counter(x.split()[1] if x.startswith('refused') else 'ok' for x in lines)
     print('%d cases, %d bytes' % (len(lines), len(given)))

@@ -203,8 +203,7 @@ def lengths_table():
         return line('%s (`plans/%s`)' % (name, file), at.n, at.m)
     return rows(['', 'N_I', 'M', 'J', 'dummies', 'lines hold', 'literal store', "first emitter's store"],
                 [line('the symbol above', N, M), of_plan('Plan A', 'plan-a.plan'),
-                 of_plan('the largest plan', 'largest.plan'), of_plan('25 kHz: Plan B', 'plan-b.plan'),
-                 of_plan('25 kHz: the largest plan', 'largest-25.plan')])
+                 of_plan('the largest plan', 'largest.plan')])
 
 
 def page(text):

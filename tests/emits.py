@@ -19,11 +19,9 @@ What the program does with a case:
   x = x * 48271 % 2147483647; a data cell is x % 16384 of the new x.
 - `sum` is the checksum, 0 at the start of a case:
   mix(sum, v) = (sum * 48271 + v) % 2147483647.
-- A symbol has `width` cells: 8,192 if the plan's first byte is 4, which names the
-  25 kHz device, else 4,096.  The profile has `width` bytes, all 14.
 - The store is 60,000 cells, all 43981 at the start of each case.  The symbol
-  buffer is 8,193 cells, all 43981 at the start of each case.  The data buffer
-  is 8,192 cells.
+  buffer is 4,097 cells, all 43981 at the start of each case.  The data buffer
+  is 4,096 cells.
 - `need` is how many cells a store of the plan has at least, M being plan byte 7 and
   N_I from the judge: of the first emitter the sum of p mod M over the cells p below
   N_I, of the second J * M * (M - 1) / 2 with J the ceiling of N_I / M; 0 of a refused
@@ -40,7 +38,7 @@ What the program does with a case:
 - Then the steps, in order.  Each is given the state that the last one sent left, except
   where said; `nd` is N_D at the state's phase.  The cells that a step names are
   generated before it, also for a step that is refused.  Unless it says otherwise, a
-  step is given the whole store, and as symbol the first `width` cells of the symbol
+  step is given the whole store, and as symbol the first 4,096 cells of the symbol
   buffer:
      0  emit with nd generated cells
      1  flush
@@ -52,35 +50,33 @@ What the program does with a case:
      6  flush with phase 128
      7  emit with nd generated cells and only the first need - 1 cells of the store,
         none if `need` is 0
-     8  flush with the first width - 1 cells of the symbol buffer
-     9  flush with the first width + 1 cells of the symbol buffer
+     8  flush with the first 4,095 cells of the symbol buffer
+     9  flush with all 4,097 cells of the symbol buffer
     10  emit with nd generated cells and exactly the first `need` cells of the
         store (accepted)
     11  flush with phase 4294967295
-    12  emit with no cells, phase + 128 and the first width - 1 cells of the symbol
+    12  emit with no cells, phase + 128 and the first 4,095 cells of the symbol
         buffer (ground 16 comes first)
     13  emit with nd - 1 generated cells, of which cell 0 is then put to 16384 (18
         comes before 19)
     14  emit with nd - 1 generated cells and only the first need - 1 cells of the
         store, none if `need` is 0 (17, of the second emitter 27, comes before 18)
     15  emit with nd - 1 generated cells, of which cell 0 is then put to 32768, and
-        the first width - 1 cells of the symbol buffer (17 comes before 18 and 19)
+        the first 4,095 cells of the symbol buffer (17 comes before 18 and 19)
     16  flush with only the first need - 1 cells of the store, none if `need` is 0
     17  emit with nd generated cells, of which cell 0 is then put to 32768 (19 at
         place 0)
     18  flush with exactly the first `need` cells of the store (accepted)
     19  flush with only the first need - 1 cells of the store, none if `need` is 0, and
-        the first width - 1 cells of the symbol buffer (17 comes before 27)
+        the first 4,095 cells of the symbol buffer (17 comes before 27)
     20  emit with nd generated cells, phase + 128 and only the first need - 1 cells of
         the store, none if `need` is 0 (16 comes before 17 and 27)
     21  emit with nd generated cells, of which cell 0 is then put to 32768, and only the
         first need - 1 cells of the store, none if `need` is 0 (17 and 27 come before 19)
-    23  flush with as many cells of the symbol buffer as a symbol of the other device has,
-        8,192 under a plan of the 50 kHz device and 4,096 under one of the 25 kHz device
-  A step with another number, 22 or from 24 on, counts as 1.  At depth 1, where `need` is 0,
-  7 and 16 are sent, 14 is refused by 18 and 21 by 19.  After each step: mix 1 and the next
+  A step with another number, 22 or more, counts as 1.  At depth 1, where `need` is 0, 7
+  and 16 are sent, 14 is refused by 18 and 21 by 19.  After each step: mix 1 and the next
   phase if it was sent; else mix 2, number, place, and the phase handed back; then mix the
-  first `width` cells of the symbol buffer (also after a refused step: nothing may have
+  first 4,096 cells of the symbol buffer (also after a refused step: nothing may have
   changed).
 - At the end of the case, also if the fresh start was refused, mix all 60,000
   cells of the store.
@@ -100,32 +96,29 @@ import emitter
 import figure
 import plans
 import stored
-from emitter import EMITTER_25, EMITTER_50, Emitter, EmitterLimits, Places, emitter_length, width
+from emitter import Emitter, EmitterLimits, Places, emitter_length
 from figure import Figure, literal_length
-from make_plans import all_plans, all_plans_25
+from make_plans import all_plans
 from model import Limits
-from plans import (LARGEST_25, PLAN_A, PLAN_B, band_below, band_below_25, entries, near_a, near_b, near_plan_b,
-                   outside, outside_25, plan, plan_25, second, singles, spread)
+from plans import (PLAN_A, band_below, entries, near_a, near_b, outside, plan,
+                   second, singles, spread)
 from stored import PRIME, mix, mix_cells
 
 STORE = 60000
-ROOM = 8193                     # cells of the symbol buffer
-WIDTHS = 4096 + 8192            # of a symbol of each device together
+SYMBOL = 4096
 UNTOUCHED = 43981
 TOP = 4294967295
 FIGURE = 'figure: '             # begins the names of the second emitter's cases and mutants
-KHZ25 = '25 kHz: '              # begins those of the 25 kHz device, or stands after that
 ASKED = (*range(129), TOP)      # phases whose N_D is asked
 REFUSED = (2, 3, 4, 5, 6, 7, 8, 9, 11, 12, 13, 14, 15, 16, 17)
 EVERY = (*REFUSED, 19, 20, 21)  # the last three are not drawn for the first emitter
-EVERY_25 = (*EVERY, 23)         # drawn for both emitters of the 25 kHz device
 
 
 # --- the cases -------------------------------------------------------------
 
 def refused_kinds(m):
     """The steps that are refused at a depth: at 1 no store is too short."""
-    return [kind for kind in EVERY_25 if m > 1 or kind not in (7, 16)]
+    return [kind for kind in EVERY if m > 1 or kind not in (7, 16)]
 
 
 def steps_of(seed, m, sent, opening=(), closing=(), kinds=REFUSED):
@@ -159,15 +152,9 @@ def steps_of(seed, m, sent, opening=(), closing=(), kinds=REFUSED):
     return bytes([*opening, *steps, *closing])
 
 
-def refused_plans(made):
-    """Cases of the refused ones among the plans of plans/."""
-    return [(name, data, (0, 127, 128, TOP)[n % 4], b'\0\1', want)
-            for n, (name, data, want, _) in enumerate(made) if want.startswith('refused')]
-
-
 def all_cases():
-    """(name, plan, phase, steps, want) of the first emitter of the 50 kHz device.  `want` is
-    worked out by hand: N_I of an accepted plan, or the line's first words of a refused start."""
+    """(name, plan, phase, steps, want) of the first emitter.  `want` is worked out by
+    hand: N_I of an accepted plan, or the line's first words of a refused start."""
     cases = []
 
     def case(name, data, phase, ranks, sent=160, opening=(), flushed=False):
@@ -190,7 +177,9 @@ def all_cases():
     # Refused at the start, by the phase (the low bits are sound) and by the plan.
     for phase in (128, 255, 65536, TOP - 127, TOP):
         cases.append(('plan A, phase %d' % phase, PLAN_A, phase, b'\0\1', 'refused 16 0'))
-    cases += refused_plans(all_plans())
+    for n, (name, data, want, _) in enumerate(all_plans()):
+        if want.startswith('refused'):
+            cases.append((name, data, (0, 127, 128, TOP)[n % 4], b'\0\1', want))
 
     # Plan A at many depths.
     case('plan A', PLAN_A, 0, 425, opening=(5, 0, 4, 6))
@@ -296,89 +285,6 @@ def other_cases():
         yield number, ('emitter %d' % number, near_a(M=3), 126, steps, 425)
 
 
-def cases_25():
-    """The same of the first emitter of the 25 kHz device, with a case of the other that is lent its symbols."""
-    cases = []
-
-    def case(name, data, phase, ranks, sent=0, opening=(), flushed=False):
-        """A run of M + 8 symbols or more; a flushed one ends with M - 1 flushes."""
-        m = data[7]
-        closing = [1] * (m - 1) if flushed else []
-        steps = steps_of(len(cases) + 1, m, max(sent, m + 8), opening, closing, EVERY_25)
-        cases.append((KHZ25 + name, data, phase, steps, ranks))
-
-    # Short runs.
-    for depth, phase in ((4, 65), (1, 0), (16, 127)):
-        cases.append((KHZ25 + 'depth %d, no steps' % depth, near_plan_b(M=depth), phase, b'', 858))
-    cases.append((KHZ25 + 'its symbols under plan A', PLAN_A, 127, bytes((23, 0, 23, 1)), 425))
-    cases.append((KHZ25 + 'depth 3, every step refused', near_plan_b(M=3), 127, bytes(EVERY_25), 858))
-    cases.append((KHZ25 + 'depth 1, every step refused', near_plan_b(M=1), 64, bytes(refused_kinds(1)), 858))
-    cases.append((KHZ25 + 'depth 2, nearly every step refused', near_plan_b(M=2), 126,
-                  bytes((*EVERY_25, 0, *EVERY_25[::-1], 10, 1, 13, 4, 2)), 858))
-
-    # Refused at the start, by the phase and by the plan.
-    for phase in (128, TOP):
-        cases.append((KHZ25 + 'plan B, phase %d' % phase, PLAN_B, phase, b'\0\1', 'refused 16 0'))
-    cases += [(KHZ25 + name, *case) for name, *case in refused_plans(all_plans_25())]
-    for m in (0, 32):
-        cases.append((KHZ25 + 'depth %d' % m, second(PLAN_B, 0, m), 0, b'\0\1', 'refused 4 0'))
-
-    # Plan B at depths 1 to 16, over the wrap; the second goes through all phases.
-    case('plan B', PLAN_B, 120, 858, 20, (5, 23, 0, 4, 6))
-    case('depth 3, 3 x 286 ranks, all phases', near_plan_b(M=3), 0, 858, 132, (12,), True)
-    case('depth 1 from 127', near_plan_b(M=1), 127, 858, 6, (0, 5, 0))
-    case('depth 3, a pilot', near_plan_b(pilots=[1704], M=3), 125, 857)
-    case('depth 16 from 118', near_plan_b(M=16), 118, 858, 34, (6, 11, 0), True)
-    case('depth 16, 16 x 53 ranks', near_plan_b(pilots=range(1601, 1621, 2), M=16), 121, 848)
-    case('depth 8, 768 ranks: three whole columns', near_plan_b(pilots=range(1601, 1781, 2), M=8), 124, 768)
-
-    # Pilots, exclusions and bands, L at both ends.
-    case('pilots on all of the grid of phase 64, an exclusion, depth 4',
-         near_plan_b(singles(2200), range(1705, 2474, 128)), 62, 850)
-    # 880 subcarriers, 8 together excluded, 16 of the PLC, 8 and 120 pilots.
-    case('120 pilots, depth 7', plan_25(2040, 7, outside_25(1600, 2479) + [(1700, 1707)], range(2200, 2320)), 123, 728)
-    case('off the chain: 0xFF, depth 15 from 60',
-         spread(entries(1944, 15, outside_25(1600, 2481), head=4), [0, 3, 7], 9), 60, 858)
-    case('a band below, depth 2, 2 x 469 ranks', second(band_below_25(1400, 1479), 0, 2), 127, 938)
-    case('L 408, depth 5', plan_25(408, 5, outside_25(296, 1175)), 126, 856)
-    case('L 7769, depth 6', plan_25(7769, 6, outside_25(7017, 7896)), 125, 856)
-
-    case('largest', LARGEST_25, 115, 7537, 18, (5, 6, 23))
-    return cases
-
-
-def figure_cases_25():
-    """The same of the second emitter."""
-    cases = []
-
-    def case(name, data, phase, ranks, sent=0, opening=(), flushed=False):
-        """A run of M + 6 symbols or more over the wrap; a flushed one ends with M - 1 flushes."""
-        m = data[7]
-        closing = [1] * (m - 1) if flushed else []
-        steps = steps_of(len(cases) + 1, m, max(sent, m + 6), opening, closing, EVERY_25)
-        cases.append((FIGURE + KHZ25 + name, data, phase, steps, ranks))
-
-    cases.append((FIGURE + KHZ25 + 'depth 4, no steps', PLAN_B, 127, b'', 858))
-    cases.append((FIGURE + KHZ25 + 'its symbols under plan A', PLAN_A, 127, bytes((23, 0, 23, 1)), 425))
-    cases.append((FIGURE + KHZ25 + 'depth 3, nearly every step refused', near_plan_b(M=3), 126,
-                  bytes((*EVERY_25, 0, *EVERY_25[::-1], 10, 1, 13, 4, 18)), 858))
-    cases.append((FIGURE + KHZ25 + 'plan B, phase 128', PLAN_B, 128, b'\0\1', 'refused 16 0'))
-    cases.append((FIGURE + KHZ25 + 'depth 17', second(PLAN_B, 0, 17), 0, b'\0\1', 'refused 4 0'))
-    case('depth 1', near_plan_b(M=1), 125, 858)
-    case('depth 3, 3 x 286 ranks', near_plan_b(M=3), 125, 858, 12, flushed=True)
-    case('plan B, two dummies', PLAN_B, 123, 858, 12, (20, 19, 21, 23, 0, 7), True)
-    case('depth 16, six dummies', near_plan_b(M=16), 110, 858, 34)
-    case('depth 16, 16 x 53 ranks', near_plan_b(pilots=range(1601, 1621, 2), M=16), 120, 848)
-    case('largest, 15 dummies', LARGEST_25, 118, 7537, 18)
-    return cases
-
-
-def numbered_cases():
-    """All cases, each with the number of its emitter."""
-    return [*((1, case) for case in all_cases()), *((2, case) for case in figure_cases()), *other_cases(),
-            *((1, case) for case in cases_25()), *((2, case) for case in figure_cases_25())]
-
-
 # --- the lines -------------------------------------------------------------
 
 class Generator:
@@ -397,10 +303,10 @@ class Generator:
         return cells
 
 
-def given_to(kind, phase, nd, need, cells, right):
+def given_to(kind, phase, nd, need, cells):
     """Phase, how much of the store, data (None is a flush) and how much of the symbol
-    buffer a step is given; right is how many cells a symbol has."""
-    store, data, symbol = STORE, None, right
+    buffer a step is given."""
+    store, data, symbol = STORE, None, SYMBOL
     if kind in (0, 4, 5, 7, 10, 17, 20, 21):
         data = cells.take(nd)
     if kind in (2, 13, 14, 15):
@@ -427,11 +333,9 @@ def given_to(kind, phase, nd, need, cells, right):
     if kind in (10, 18):
         store = need
     if kind in (8, 12, 15, 19):
-        symbol = right - 1
+        symbol = SYMBOL - 1
     if kind == 9:
-        symbol = right + 1
-    if kind == 23:
-        symbol = WIDTHS - right
+        symbol = SYMBOL + 1
     return phase, store, data, symbol
 
 
@@ -477,11 +381,11 @@ def line_of(model, data, start, steps):
     if answer[0] == 'refused':
         return 'refused %d %d %d' % (*answer[1:], mix_cells(total, store))
     _, phase = answer
-    buffer, right = [UNTOUCHED] * ROOM, width(data)
+    buffer = [UNTOUCHED] * (SYMBOL + 1)
     cells = Generator()
     sent = 0
     for kind in steps:
-        asked, held, lent, size = given_to(kind, phase, counts.get(phase, 0), need, cells, right)
+        asked, held, lent, size = given_to(kind, phase, counts.get(phase, 0), need, cells)
         part = store if held == STORE else store[:held]
         symbol = buffer[:size]
         answer = model.step(data, asked, part, lent, symbol)
@@ -492,7 +396,7 @@ def line_of(model, data, start, steps):
         if answer[0] == 'sent':
             _, phase = answer
             sent += 1
-        total = mix_cells(mix_answer(total, answer), buffer[:right])
+        total = mix_cells(mix_answer(total, answer), buffer[:SYMBOL])
     return '%d %d %d' % (sent, len(steps) - sent, mix_cells(total, store))
 
 
@@ -509,7 +413,7 @@ def check_case(case, line):
 def make():
     """The cases, each with the number of its emitter at the end, their lines, and the bytes of
     stdin and stdout."""
-    numbered = numbered_cases()
+    numbered = [*((1, case) for case in all_cases()), *((2, case) for case in figure_cases()), *other_cases()]
     first, second = Emitter(), Figure()
     given = b''
     lines = []
@@ -530,6 +434,8 @@ def make():
 
 EQUIVALENT = {
     'nothing': 'The model that the others bend, as it is.',
+    'emitted phase not taken modulo 128':
+        'The grid repeats every 128 subcarriers, so it is the same at phase j and j + 128.',
     FIGURE + 'nothing': 'The model that the others bend, as it is.',
     **{FIGURE + name: why for name, why in figure.NO_DIFFERENT.items()},
     FIGURE + 'a dummy too many': 'It goes into line 0, comes out at once and is thrown away.',
@@ -541,8 +447,8 @@ class Total(Emitter):
     a cell that it is not given reads 0, one that has no place is not written, and
     a rank is below N_I."""
 
-    def ranks_of_cells(self, x, n):
-        return [min(rank or 0, n - 1) for rank in Emitter.ranks_of_cells(self, x, n)]
+    def ranks_of_cells(self, n):
+        return [min(rank or 0, n - 1) for rank in Emitter.ranks_of_cells(self, n)]
 
     def input_symbol(self, at, phase, data):
         return Emitter.input_symbol(
@@ -571,67 +477,21 @@ def bent(**methods):
 
 
 def limited(model=Total, **limits):
-    """A model with other numbers of the 50 kHz device."""
-    return model(replace(EMITTER_50, **limits))
-
-
-def limited_25(model=Total, **limits):
-    """The same of the 25 kHz device."""
-    return model(EMITTER_50, replace(EMITTER_25, **limits))
+    return model(replace(EmitterLimits(), **limits))
 
 
 def limit_mutants(model=Total):
-    """Each limit of each device one lower and one higher."""
+    """Each limit one lower and one higher."""
     own = {field.name for field in fields(EmitterLimits)} - {field.name for field in fields(Limits)}
-    for name in sorted(own | {'scattered_from', 'scattered_period', 'scattered_step'}):
-        for device, made, before in ((EMITTER_50, limited, ''), (EMITTER_25, limited_25, KHZ25)):
-            value = getattr(device, name)
-            for other in (value - 1, value + 1):
-                yield '%slimit %s %d -> %d' % (before, name, value, other), made(model, **{name: other})
+    for name in sorted(own | {'scattered_from', 'scattered_step'}):
+        value = getattr(EmitterLimits(), name)
+        for other in (value - 1, value + 1):
+            yield 'limit %s %d -> %d' % (name, value, other), limited(model, **{name: other})
     for other in (-1, 1):
         class Other(model):
             def limit(self, load, other=other):
                 return model.limit(self, load) + other
         yield 'limit of load 14 %d -> %d' % (16383, 16383 + other), Other()
-
-
-def device_mutants(model=Total, lent='symbol'):
-    """Numbers of one device for those of the other.  `model` is the one that is bent, `lent` what a step
-    calls the symbol that it is given."""
-    def other(name, **limits):
-        return KHZ25 + name, limited_25(model, **limits)
-
-    def bent_device(**methods):
-        return type('Bent', (model,), methods)()
-
-    yield other('128 rows', rows=128, row_bits=7)
-    yield other('128 rows of 256', rows=128)
-    yield other('the phase map straight', scattered_step=1)
-    yield other('a PLC of 8', plc_width=8)
-    yield other('a PLC of 8, scattered from there', plc_width=8, scattered_from=8)
-    yield other('scattered from L+8', scattered_from=8)
-    yield other('distances halved', distance_1=15, distance_2=24, distance_3=35, distance_4=47)
-    yield other('a symbol of 4,096 cells', cells=4096)
-    yield other('a profile of 4,096 bytes', profile=4096)
-    yield other('a depth up to 32', highest_m=32)
-    yield other('scattered again after 256', scattered_period=256)
-    yield 'the phase map of the 25 kHz device', limited(model, scattered_step=2)
-    yield KHZ25 + 'judged by the other device', bent_device(device_of_kind=lambda self, kind: self.khz50)
-    yield 'judged by the 25 kHz device', bent_device(device_of_kind=lambda self, kind: self.khz25)
-    yield KHZ25 + 'from phase 64 on the grid of phase j - 64', bent_device(
-        start=lambda self, x, phase: x.scattered_step * phase % x.scattered_period)
-    yield KHZ25 + 'odd subcarriers first', bent_device(
-        start=lambda self, x, phase: model.start(self, x, (phase + 64) % 128) if x.scattered_step == 2
-        else model.start(self, x, phase))
-
-    def either(self, at, given):
-        if len(getattr(given, lent) or ()) in (4096, 8192):
-            given = given._replace(**{lent: [0] * at.limits.cells})
-        return model.ground_17(self, at, given)
-    yield KHZ25 + 'its symbol is good under the other device', bent_device(
-        ground_17=lambda self, at, given: (either if at.limits.cells == 4096 else model.ground_17)(self, at, given))
-    yield KHZ25 + 'the symbol of the other device is good', bent_device(
-        ground_17=lambda self, at, given: (either if at.limits.cells == 8192 else model.ground_17)(self, at, given))
 
 
 def scattered_at(self, at, phase):
@@ -831,37 +691,37 @@ def reading_mutants():
     def order(reading_order):
         return bent(reading_order=reading_order)
 
-    def columns_of(x, n):
-        return range((n + x.rows - 1) // x.rows)
+    def columns_of(n):
+        return range((n + 127) // 128)
 
-    yield 'bits not reversed', bent(row_read=lambda self, x, i: i)
+    yield 'bits not reversed', bent(row_read=lambda self, i: i)
     yield 'six bits of 64 rows', limited(rows=64, row_bits=6)
     yield 'eight bits of 256 rows', limited(rows=256, row_bits=8)
     yield 'bits reversed and turned over', bent(
-        row_read=lambda self, x, i: x.rows - 1 - Total.row_read(self, x, i))
+        row_read=lambda self, i: 127 - Total.row_read(self, i))
     yield 'two lowest bits reversed only', bent(
-        row_read=lambda self, x, i: (i & ~3) + (i & 1) * 2 + (i >> 1 & 1))
+        row_read=lambda self, i: (i & 124) + (i & 1) * 2 + (i >> 1 & 1))
     yield 'columns read first', order(
-        lambda self, x, n: [p for c in columns_of(x, n) for i in range(x.rows)
-                            for p in [x.rows * c + self.row_read(x, i)] if p < n])
+        lambda self, n: [p for c in columns_of(n) for i in range(128)
+                         for p in [128 * c + self.row_read(i)] if p < n])
     yield 'rows read from right to left', order(
-        lambda self, x, n: [p for i in range(x.rows)
-                            for p in reversed(range(self.row_read(x, i), n, x.rows))])
+        lambda self, n: [p for i in range(128)
+                         for p in reversed(range(self.row_read(i), n, 128))])
     yield 'rows filled one after the other', order(
-        lambda self, x, n: [p for i in range(x.rows) for c in columns_of(x, n)
-                            for p in [self.row_read(x, i) * len(columns_of(x, n)) + c] if p < n])
+        lambda self, n: [p for i in range(128) for c in columns_of(n)
+                         for p in [self.row_read(i) * len(columns_of(n)) + c] if p < n])
     yield 'missing places counted', bent(
-        ranks_of_cells=lambda self, x, n: [
-            min(self.row_read(x, p % x.rows) * len(columns_of(x, n)) + p // x.rows, n - 1)
+        ranks_of_cells=lambda self, n: [
+            min(self.row_read(p % 128) * len(columns_of(n)) + p // 128, n - 1)
             for p in range(n)])
     yield 'rank and cell exchanged', bent(
-        ranks_of_cells=lambda self, x, n: Total.reading_order(self, x, n))
-    yield 'no frequency interleaving', order(lambda self, x, n: list(range(n)))
+        ranks_of_cells=lambda self, n: Total.reading_order(self, n))
+    yield 'no frequency interleaving', order(lambda self, n: list(range(n)))
     yield 'ranks falling', bent(
-        ranks_of_cells=lambda self, x, n: [n - 1 - r for r in Total.ranks_of_cells(self, x, n)])
+        ranks_of_cells=lambda self, n: [n - 1 - r for r in Total.ranks_of_cells(self, n)])
     yield 'first and last rank exchanged', bent(
-        ranks_of_cells=lambda self, x, n: [
-            {0: n - 1, n - 1: 0}.get(r, r) for r in Total.ranks_of_cells(self, x, n)])
+        ranks_of_cells=lambda self, n: [
+            {0: n - 1, n - 1: 0}.get(r, r) for r in Total.ranks_of_cells(self, n)])
 
 
 def delay_mutants():
@@ -889,7 +749,7 @@ def delay_mutants():
     yield 'placeholders at an earlier phase', bent(
         is_placeholder=lambda self, at, p, phase:
         self.on_grid(at.map, at.carriers[p], phase - p % at.m))
-    yield KHZ25 + 'emitted phase not taken modulo 128', bent(
+    yield 'emitted phase not taken modulo 128', bent(
         is_placeholder=lambda self, at, p, phase:
         self.on_grid(at.map, at.carriers[p], phase + p % at.m))
     yield 'placeholder of the rank p', bent(
@@ -913,25 +773,25 @@ def mark_mutants():
         def send(self, at, cells, symbol):
             before = list(symbol)
             Total.send(self, at, cells, symbol)
-            for k in set(range(len(at.marks))) - set(at.carriers):
+            for k in set(range(4096)) - set(at.carriers):
                 if test(self, at, k):
                     symbol[k] = before[k]
         return bent(send=send)
     yield 'excluded left unwritten', kept(lambda self, at, k: at.map.excluded[k])
     yield 'PLC left unwritten', kept(lambda self, at, k: self.is_plc(at.map, k))
     yield 'predefined pilots left unwritten', kept(
-        lambda self, at, k: k in self.predefined(at.limits, at.map.l))
+        lambda self, at, k: k in self.predefined(at.map.l))
     yield 'further pilots left unwritten', kept(
         lambda self, at, k: k in [pilot for _, pilot in at.map.pilots])
     yield 'subcarrier 0 left unwritten', kept(lambda self, at, k: k == 0)
-    yield 'the last subcarrier left unwritten', kept(lambda self, at, k: k == at.limits.last_subcarrier)
+    yield 'subcarrier 4095 left unwritten', kept(lambda self, at, k: k == 4095)
     yield 'single exclusions marked as continuous', bent(
         mark=lambda self, p, k: 0x8003 if p.excluded[k] and p.excluded.find(0) < k
         < p.excluded.rfind(0) else Total.mark(self, p, k))
-    yield 'PLC one longer', bent(
-        mark=lambda self, p, k: 0x8004 if k == p.l + p.limits.plc_width else Total.mark(self, p, k))
-    yield 'PLC one shorter', bent(
-        mark=lambda self, p, k: 0x8003 if k == p.l + p.limits.plc_width - 1 else Total.mark(self, p, k))
+    yield 'PLC of nine', bent(
+        mark=lambda self, p, k: 0x8004 if k == p.l + 8 else Total.mark(self, p, k))
+    yield 'PLC of seven', bent(
+        mark=lambda self, p, k: 0x8003 if k == p.l + 7 else Total.mark(self, p, k))
     for name, test in (('continuous', lambda cell: cell == 0x8003),
                        ('PLC', lambda cell: cell == 0x8004),
                        ('excluded', lambda cell: cell == 0x8002)):
@@ -1120,7 +980,7 @@ def state_mutants():
         'stops at 127': lambda j: min(j + 1, 127),
     }
     for name, after in phases.items():
-        yield 'phase %s' % name, bent(next_phase=lambda self, at, j, after=after: after(j))
+        yield 'phase %s' % name, bent(next_phase=lambda self, j, after=after: after(j))
 
 
 def ground_mutants():
@@ -1159,8 +1019,8 @@ def ground_mutants():
     def short(at, given, need):
         return given.store is not None and len(given.store) < need
 
-    def odd(at, given):
-        return given.symbol is not None and len(given.symbol) != at.limits.cells
+    def odd(given):
+        return given.symbol is not None and len(given.symbol) != 4096
 
     def triangle(m):
         return m * (m - 1) // 2
@@ -1191,13 +1051,13 @@ def ground_mutants():
     }
     for name, length in lengths.items():
         yield 'ground 17: store: ' + name, holds(
-            17, lambda self, at, g, length=length: short(at, g, length(at, g)) or odd(at, g))
+            17, lambda self, at, g, length=length: short(at, g, length(at, g)) or odd(g))
     yield 'ground 17: symbol not tried', holds(
         17, lambda self, at, g: short(at, g, needed(at)))
     yield 'ground 17: short symbol good', holds(
-        17, lambda self, at, g: short(at, g, needed(at)) or odd(at, g) and len(g.symbol) > at.limits.cells)
+        17, lambda self, at, g: short(at, g, needed(at)) or odd(g) and len(g.symbol) > 4096)
     yield 'ground 17: long symbol good', holds(
-        17, lambda self, at, g: short(at, g, needed(at)) or odd(at, g) and len(g.symbol) < at.limits.cells)
+        17, lambda self, at, g: short(at, g, needed(at)) or odd(g) and len(g.symbol) < 4096)
 
     def late(part):
         """The ground that speaks of a part of what is given, tried after the others."""
@@ -1321,15 +1181,14 @@ def figure_mutants():
     yield 'steps write nothing', SilentFigure()
     yield 'writes the store only', bent_figure(send=nothing)
     yield 'the store left as it is', bent_figure(fill=nothing)
-    yield 'no frequency interleaving', bent_figure(reading_order=lambda self, x, n: list(range(n)))
+    yield 'no frequency interleaving', bent_figure(reading_order=lambda self, n: list(range(n)))
     yield 'N_D is N_I', bent_figure(count=lambda self, at, phase: at.n)
     yield 'placeholders of the emitted symbol', bent_figure(placeholders=scattered_at)
-    yield from device_mutants(TotalFigure)
 
 
 def all_mutants():
     yield 'nothing', bent()
-    for mutants in (limit_mutants, device_mutants, shortcut_mutants,
+    for mutants in (limit_mutants, shortcut_mutants,
                     lambda: refused_mutants(Total, bent, (16, 17, 18, 19)), fresh_mutants,
                     reading_mutants, delay_mutants, mark_mutants, data_mutants, store_mutants,
                     state_mutants, ground_mutants):
@@ -1339,16 +1198,12 @@ def all_mutants():
 
 
 def try_mutants(cases, lines):
-    """Each on the cases of its emitter, those of the 25 kHz device on its own.  The equivalent ones are tried
-    on the first cases, which come before the larger plans."""
+    """Each on the cases of its emitter.  The equivalent ones of the first are tried on its first 40 cases,
+    which come before the larger plans."""
     tried = {which: [(case, line) for case, line in zip(cases, lines) if case[-1] == which] for which in (1, 2)}
 
     def change_of(name, model):
-        some = tried[2] if isinstance(model, Figure) else tried[1]
-        if name in EQUIVALENT:
-            some = some[:23 if isinstance(model, Figure) else 40]
-        if KHZ25 in name:
-            some = [(case, line) for case, line in some if KHZ25 in case[0]]
+        some = tried[2] if isinstance(model, Figure) else tried[1][:40 if name in EQUIVALENT else None]
         return stored.first_change(line_of, *zip(*some), model)
     return stored.try_mutants(all_mutants(), change_of, EQUIVALENT, len(cases))
 

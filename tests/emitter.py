@@ -1,36 +1,34 @@
 #!/usr/bin/env python3
-"""A second model of the emitter, written from the scope paper and requests 03, 07 and 11 alone.
+"""A second model of the emitter, written from the scope paper and requests 03 and 07 alone.
 
 It knows the frequency and the time interleaver, the placeholders of an input
 symbol, N_D, the store, the load profile, the fresh start and one step, with grounds
 25 and 16 to 19 after the plan's own.  Like the model of the plans, on which it stands,
 it is kept plain: every rule is a small method that can be held against the paper,
-and that a test can bend.  The rules are the same for both devices, with the numbers
-of the plan's own.  What follows from the bytes of a plan or of a profile alone is
-worked out once and kept.  A step that is given no profile has 14 everywhere.
+and that a test can bend.  What follows from the bytes of a plan or of a profile alone
+is worked out once and kept.  A step that is given no profile has FULL, 14 everywhere.
 
     python3 tests/emitter.py
 
-holds the model against what is worked out by hand of Plan A and Plan B, and against
-the claims that the papers make of every plan of both devices: N_D over 128 phases,
-the place of each cell, and the role of each subcarrier of a sent symbol.
+holds the model against what the paper says of Plan A, and against the claims
+it makes of every plan: N_D over 128 phases, the place of each cell, and the
+role of each subcarrier of a sent symbol.
 """
 
 import sys
-from dataclasses import asdict, dataclass
+from dataclasses import dataclass
 from itertools import accumulate, chain, repeat
 from typing import NamedTuple, Optional
 
 sys.dont_write_bytecode = True
 
 import plans
-from model import KHZ25, Limits, Model
+from model import Limits, Model
 
 
 @dataclass(frozen=True)
 class EmitterLimits(Limits):
-    """Every number of the emitter's rules, beside those of the plans.  The numbers here are
-    those of the 50 kHz device."""
+    """Every number of the emitter's rules, beside those of the plans."""
     phases: int = 128               # ground 16, and the phases go round
     rows: int = 128                 # rows of the frequency interleaver ...
     row_bits: int = 7               # ... whose numbers have so many bits
@@ -41,24 +39,6 @@ class EmitterLimits(Limits):
     excluded_mark: int = 0x8002
     continuous_mark: int = 0x8003
     plc_mark: int = 0x8004
-
-
-EMITTER_50 = EmitterLimits()
-EMITTER_25 = EmitterLimits(**asdict(KHZ25), rows=256, row_bits=8, cells=8192, profile=8192)
-DEVICES = Model(EMITTER_50, EMITTER_25)
-
-FULL = bytes([14]) * EMITTER_50.profile         # a profile: a data cell is 0 to 16383
-FULL_25 = bytes([14]) * EMITTER_25.profile
-
-
-def width(plan):
-    """How many cells a symbol has, and bytes a profile, under a plan."""
-    return DEVICES.device(plan).cells
-
-
-def full(plan):
-    """The profile with 14 everywhere, of the plan's device."""
-    return FULL_25 if DEVICES.device(plan) is EMITTER_25 else FULL
 
 
 class Given(NamedTuple):
@@ -76,6 +56,9 @@ class Given(NamedTuple):
     start: int = 0                  # the bit of the stream
 
 
+FULL = bytes([14]) * 4096           # a profile: a data cell is 0 to 16383
+
+
 class Places:
     """The places of a store: so many for each cell, cells in rising p."""
 
@@ -89,12 +72,11 @@ class Layout:
 
     def __init__(self, emitter, p):
         self.map = p
-        self.limits = p.limits                              # of the plan's device
         self.m = p.m
         self.subcarriers = emitter.ranks_of(p)              # of each rank
         self.ranked = set(self.subcarriers)
         self.n = len(self.subcarriers)                      # N_I
-        self.ranks = emitter.ranks_of_cells(p.limits, self.n)      # of each cell
+        self.ranks = emitter.ranks_of_cells(self.n)         # of each cell
         self.carriers = [self.subcarriers[rank] for rank in self.ranks]     # of each cell
         self.marks = [emitter.mark(p, k) for k in range(len(p.excluded))]
         self.placeholders = {}      # by phase
@@ -107,10 +89,10 @@ class Emitter(Model):
     step_order = (25, 16, 17, 18, 19)
     loads = (0, 4, 6, 7, 8, 9, 10, 11, 12, 13, 14)      # that a profile may have
 
-    def __init__(self, khz50=EMITTER_50, khz25=EMITTER_25):
-        super().__init__(khz50, khz25)
+    def __init__(self, limits=EmitterLimits()):
+        super().__init__(limits)
         self.layouts = {}
-        self.profiles = {}          # of each profile and its right length the place at which 25 refuses it, or None
+        self.profiles = {}          # of each profile the place at which 25 refuses it, or None
 
     def layout(self, plan):
         """The Layout of a plan, or its refusal ('refused', number, place)."""
@@ -121,37 +103,37 @@ class Emitter(Model):
 
     # --- frequency ---------------------------------------------------------
 
-    def row_read(self, x, i):
-        """The i-th row that is read: i with its bits reversed, seven or eight."""
+    def row_read(self, i):
+        """The i-th row that is read: i with its seven bits reversed."""
         row = 0
-        for _ in range(x.row_bits):
+        for _ in range(self.limits.row_bits):
             row = 2 * row + i % 2
             i = i // 2
         return row
 
-    def reading_order(self, x, n):
-        """Cells 0 to n - 1 as they are read.  With R rows, cell p stands in row p mod R,
-        column p div R; a row is read from left to right, and a place past the last cell
-        is skipped."""
+    def reading_order(self, n):
+        """Cells 0 to n - 1 as they are read.  Cell p stands in row p mod 128,
+        column p div 128; a row is read from left to right, and a place past
+        the last cell is skipped."""
         order = []
-        for i in range(x.rows):
-            order += range(self.row_read(x, i), n, x.rows)
+        for i in range(self.limits.rows):
+            order += range(self.row_read(i), n, self.limits.rows)
         return order
 
-    def ranks_of_cells(self, x, n):
+    def ranks_of_cells(self, n):
         """The rank of each cell: how many cells are read before it."""
         ranks = [None] * n
-        for before, p in enumerate(self.reading_order(x, n)):
+        for before, p in enumerate(self.reading_order(n)):
             ranks[p] = before
         return ranks
 
     def mark(self, p, k):
         """The mark that subcarrier k carries if it has no rank."""
         if p.excluded[k]:
-            return p.limits.excluded_mark
+            return self.limits.excluded_mark
         if self.is_plc(p, k):
-            return p.limits.plc_mark
-        return p.limits.continuous_mark
+            return self.limits.plc_mark
+        return self.limits.continuous_mark
 
     # --- time --------------------------------------------------------------
 
@@ -175,7 +157,7 @@ class Emitter(Model):
     def is_placeholder(self, at, p, phase):
         """Is cell p of an input symbol at this phase a placeholder?  The
         subcarrier of a rank is scattered exactly where it is on the grid."""
-        emitted = (phase + self.delay(at, p)) % at.limits.phases
+        emitted = (phase + self.delay(at, p)) % self.limits.phases
         return self.on_grid(at.map, at.carriers[p], emitted)
 
     def placeholders(self, at, phase):
@@ -189,8 +171,8 @@ class Emitter(Model):
 
     def input_symbol(self, at, phase, data):
         """The data in rising p between the placeholders; of a flush, filler."""
-        cells = repeat(at.limits.filler_mark) if data is None else iter(data)
-        return [at.limits.scattered_mark if held else next(cells)
+        cells = repeat(self.limits.filler_mark) if data is None else iter(data)
+        return [self.limits.scattered_mark if held else next(cells)
                 for held in self.placeholders(at, phase)]
 
     # --- loads -------------------------------------------------------------
@@ -243,7 +225,7 @@ class Emitter(Model):
         """The places of each cell in a fresh store: those of cell p hold cell p of the symbols
         without data of the last p mod M steps, oldest first."""
         counts = self.places(at).counts
-        back = {r: self.input_symbol(at, (phase - r) % at.limits.phases, None)
+        back = {r: self.input_symbol(at, (phase - r) % self.limits.phases, None)
                 for r in range(1, max(counts) + 1)}
         return [[back[r][p] for r in range(count, 0, -1)] for p, count in enumerate(counts)]
 
@@ -251,8 +233,8 @@ class Emitter(Model):
         """Writes the store from its first place on."""
         store[:len(cells)] = cells
 
-    def next_phase(self, at, phase):
-        return (phase + 1) % at.limits.phases
+    def next_phase(self, phase):
+        return (phase + 1) % self.limits.phases
 
     # --- grounds -----------------------------------------------------------
     # Each answers its place, or None if it does not hold.
@@ -261,19 +243,18 @@ class Emitter(Model):
         profile = given.profile
         if profile is None:
             return None
-        known = profile, at.limits.profile
-        if known not in self.profiles:
-            wrong = len(profile) != at.limits.profile
-            self.profiles[known] = 0 if wrong else self.lowest_unlisted(profile)
-        return self.profiles[known]
+        if profile not in self.profiles:
+            wrong = len(profile) != self.limits.profile
+            self.profiles[profile] = 0 if wrong else self.lowest_unlisted(profile)
+        return self.profiles[profile]
 
     def ground_16(self, at, given):
-        return 0 if given.phase >= at.limits.phases else None
+        return 0 if given.phase >= self.limits.phases else None
 
     def ground_17(self, at, given):
         if given.store is not None and len(given.store) < self.places(at, given.end).length:
             return 0
-        if given.symbol is not None and len(given.symbol) != at.limits.cells:
+        if given.symbol is not None and len(given.symbol) != self.limits.cells:
             return 0
         return None
 
@@ -317,19 +298,19 @@ class Emitter(Model):
         self.fill(store, list(chain(*self.fresh_places(self.layout(plan), phase))))
         return ('fresh', phase)
 
-    def step(self, plan, phase, store, data, symbol, profile=None):
+    def step(self, plan, phase, store, data, symbol, profile=FULL):
         """One step; data None is a flush, which has no profile.  ('sent', next phase), with
         store and symbol written; or ('refused', number, place, phase), with nothing changed."""
-        profile = None if data is None else full(plan) if profile is None else profile
+        profile = None if data is None else profile
         refused = self.refusal(plan, Given(phase, store, data, symbol, profile=profile))
         if refused:
             return (*refused, phase)
         at = self.layout(plan)
         self.send(at, self.move(self.places(at), store, self.input_symbol(at, phase, data)), symbol)
-        return ('sent', self.next_phase(at, phase))
+        return ('sent', self.next_phase(phase))
 
 
-# --- what the papers say ---------------------------------------------------
+# --- what the paper says ---------------------------------------------------
 
 def check_plan_a():
     """The starred numbers."""
@@ -340,35 +321,15 @@ def check_plan_a():
     assert a.carriers[1] == 1029
     assert [j for j in range(128) if emitter.is_placeholder(a, 1, j)] == [48]
     assert emitter.places(a).length == 636
-    check_shown(plans.PLAN_A, 1029, 48, 1)
-
-
-def check_plan_b():
-    """The same of the 25 kHz device, by hand: even rows are read before row 1, so cell 1 has
-    rank 429; it goes to 2052, which is 92 above the PLC's end, scattered at phase 46.  Rows
-    that 4 divides are read before row 2; cell 2 goes to 1815, 111 above 1704, so phase 119."""
-    emitter = Emitter()
-    b = emitter.layout(plans.PLAN_B)
-    assert (b.n, b.m) == (858, 4)
-    assert [b.ranks[p] for p in (0, 256, 512, 768, 128, 64, 2, 1)] == [0, 1, 2, 3, 4, 7, 215, 429]
-    assert (b.carriers[1], b.carriers[2]) == (2052, 1815)
-    assert [j for j in range(128) if emitter.is_placeholder(b, 1, j)] == [45]
-    assert [j for j in range(128) if emitter.is_placeholder(b, 2, j)] == [117]
-    assert emitter.places(b).length == 1285
-    check_shown(plans.PLAN_B, 2052, 45, 1)
-    check_shown(plans.PLAN_B, 1815, 117, 2)
-
-
-def check_shown(plan, k, phase, delay):
-    """A cell that is a placeholder in the input at the phase is shown on its subcarrier after
-    its delay, and no other symbol shows one there."""
-    emitter = Emitter()
-    store, symbol = [0] * emitter.places(emitter.layout(plan)).length, [0] * width(plan)
-    _, now = emitter.fresh(plan, phase, store)
-    for later in range(4):
-        _, after = emitter.step(plan, now, store, None, symbol)
-        assert symbol[k] == (0x8000 if later == delay else 0x8001)
-        now = after
+    store, symbol = [0] * 636, [0] * 4096
+    # The emitted symbol that shows cell 1 of the input at phase 48 has phase 49.
+    _, phase = emitter.fresh(plans.PLAN_A, 48, store)
+    shown = []
+    for _ in range(3):
+        answer = emitter.step(plans.PLAN_A, phase, store, None, symbol)
+        shown.append((phase, symbol[1029]))
+        _, phase = answer
+    assert shown == [(48, 0x8001), (49, 0x8000), (50, 0x8001)]
 
 
 def emitter_length(n, m):
@@ -378,22 +339,16 @@ def emitter_length(n, m):
 
 
 def check_lengths():
-    """The closed form, and the length that is enough for every plan of each device."""
+    """The closed form, and the length that is enough for every plan."""
     emitter = Emitter()
-    for plan in (plans.PLAN_A, plans.near_a(M=1), plans.near_a(M=3), plans.LARGEST,
-                 plans.PLAN_B, plans.near_plan_b(M=1), plans.near_plan_b(M=3), plans.LARGEST_25):
+    for plan in (plans.PLAN_A, plans.near_a(M=1), plans.near_a(M=3), plans.LARGEST):
         at = emitter.layout(plan)
         assert emitter.places(at).length == emitter_length(at.n, at.m)
     for m in range(1, 33):
         for n in (1, m, 10 * m, 10 * m + 1, 11 * m - 1):
             assert emitter_length(n, m) == sum(p % m for p in range(n))
-    assert longest_of(emitter_length, EMITTER_50) == emitter_length(3745, 32) == 58032
-    assert longest_of(emitter_length, EMITTER_25) == emitter_length(7537, 16) == 56520
-
-
-def longest_of(length, x):
-    """The longest store of a device, by a closed form of N_I and M."""
-    return max(length(n, m) for n in range(x.most_ranks + 1) for m in range(1, x.highest_m + 1))
+    longest = max(emitter_length(n, m) for n in range(3746) for m in range(1, 33))
+    assert longest == emitter_length(3745, 32) == 58032
 
 
 def check_counts(plan):
@@ -420,7 +375,7 @@ def check_run(plan, start, steps):
         assert phase == (start + t) % 128
         count = emitter.data_count(plan, phase)
         data = None if t % 5 == 3 else [(1000 * t + i) % 16384 for i in range(count)]
-        symbol = [7] * width(plan)
+        symbol = [7] * 4096
         answer = emitter.step(plan, phase, store, data, symbol)
         assert answer[0] == 'sent'
         inputs.append(emitter.input_symbol(at, phase, data))
@@ -429,9 +384,11 @@ def check_run(plan, start, steps):
         kept = [cells[p] for p in range(at.n) for cells in inputs[len(inputs) - p % at.m:]]
         assert store == kept + [7, 7]
     marks = {'excluded': 0x8002, 'plc': 0x8004, 'continuous': 0x8003, 'scattered': 0x8000}
+    judged = emitter.judge
+    emitter.judge = lambda _, p=judged(plan): p
     for t, symbol in enumerate(sent):
         for k, cell in enumerate(symbol):
-            role = emitter.role_of(at.map, k, (start + t) % 128)
+            role = emitter.role(plan, k, (start + t) % 128)
             assert cell == marks[role] if role != 'data' else cell < 16384 or cell == 0x8001
     for t, cells in enumerate(inputs, 1 - at.m):
         for p, cell in enumerate(cells):
@@ -439,17 +396,16 @@ def check_run(plan, start, steps):
                 assert sent[t + p % at.m][at.carriers[p]] == cell
 
 
-def check_grounds(a, need, k):
-    """Grounds 25 and 16 to 19 in order, at their limits, and nothing changed.  `need` is how
-    long the store of the plan is, k the subcarrier of cell 1, which at phase 5 is data cell 1."""
+def check_grounds():
+    """Grounds 25 and 16 to 19 in order, at their limits, and nothing changed."""
     emitter = Emitter()
+    a = plans.PLAN_A
     count = emitter.data_count(a, 5)
     good = [3] * count
     bad = [3] * (count - 1) + [16384]
-    right, good_profile = width(a), full(a)
-    others = {right - 1, right + 1, 4096, 8192} - {right}
+    need = 636
 
-    def step(want, phase=5, size=need, data=good, cells=right, plan=a, profile=good_profile):
+    def step(want, phase=5, size=need, data=good, cells=4096, plan=a, profile=FULL):
         store, symbol, lent = [9] * size, [9] * cells, None if data is None else list(data)
         answer = emitter.step(plan, phase, store, lent, symbol, profile)
         if want == 'sent':
@@ -468,11 +424,10 @@ def check_grounds(a, need, k):
     step((16, 0), phase=128, data=None)
     step((16, 0), phase=2 ** 32 - 1, data=bad)
     step((17, 0), size=need - 1)
-    for cells in others:
-        step((17, 0), cells=cells, data=None)
-        step((17, 0), cells=cells)
-        step((17, 0), cells=cells, data=bad)
-        step((17, 0), cells=cells, data=[32768] + good[1:])
+    step((17, 0), cells=4095, data=None)
+    step((17, 0), cells=4097)
+    step((17, 0), cells=4097, data=bad)
+    step((17, 0), cells=4095, data=[32768] + good[1:])
     step((17, 0), size=need - 1, data=good[1:])
     step((18, 0), data=[])
     step((18, 0), data=good + [3])
@@ -480,14 +435,15 @@ def check_grounds(a, need, k):
     step((19, count - 1), data=bad)
     step((19, 0), data=[16384] + bad[1:])
     step((19, 0), data=[32768] + good[1:])
+    wrong = FULL[:700] + bytes([5]) + FULL[701:]
     step((1, 0), plan=b'', profile=b'')
-    for profile, place in ((b'', 0), *((bytes([14]) * cells, 0) for cells in others),
-                           (with_load(good_profile, 700, 5), 700), (with_load(good_profile, right - 1, 15), right - 1)):
+    for profile, place in ((b'', 0), (FULL[1:], 0), (FULL + FULL[:1], 0), (wrong, 700)):
         step((25, place), profile=profile)
         step((25, place), profile=profile, phase=128, size=0, data=bad[1:], cells=0)
         step('sent', profile=profile, data=None)
+    # Data cell 1 at phase 5 is cell 1, which goes to subcarrier 1029.
     for load in emitter.loads:
-        profile, most = with_load(good_profile, k, load), emitter.limit(load)
+        profile, most = FULL[:1029] + bytes([load]) + FULL[1030:], emitter.limit(load)
         assert most == {0: 1}.get(load, 2 ** load - 1)
         step('sent', profile=profile, data=[16383, most] + good[2:] if load else [16383, 0] + good[2:])
         step('sent', profile=profile, data=[16383, most] + good[2:])
@@ -496,45 +452,25 @@ def check_grounds(a, need, k):
     assert emitter.fresh(a, 128, []) == ('refused', 16, 0)
     assert emitter.fresh(a, 127, [9] * (need - 1)) == ('refused', 17, 0)
     assert emitter.fresh(a, 127, [9] * need) == ('fresh', 127)
-    assert emitter.fresh(plans.second(a, 0, 1), 127, []) == ('fresh', 127)     # no cell is delayed
+    assert emitter.fresh(plans.near_a(M=1), 127, []) == ('fresh', 127)     # no cell is delayed
     assert emitter.fresh(b'', 128, []) == ('refused', 1, 0)
     assert emitter.data_count(a, 128) == ('refused', 16, 0)
     assert emitter.data_count(b'', 128) == ('refused', 1, 0)
 
 
-def with_load(profile, k, load):
-    """The profile with another load at a subcarrier."""
-    return profile[:k] + bytes([load]) + profile[k + 1:]
-
-
-def check_depths():
-    """Depth 16 is the last of the 25 kHz device, 32 that of the other."""
-    emitter = Emitter()
-    for plan, most in ((plans.PLAN_A, 32), (plans.PLAN_B, 16)):
-        for m in (0, most + 1):
-            assert emitter.layout(plans.second(plan, 0, m)) == ('refused', 4, 0)
-        assert emitter.layout(plans.second(plan, 0, most)).m == most
-
-
 def check_facts():
     check_plan_a()
-    check_plan_b()
-    for plan in (plans.PLAN_A, plans.LARGEST, plans.SINGLES_150, plans.PLAN_B, plans.LARGEST_25):
-        check_counts(plan)
+    check_counts(plans.PLAN_A)
+    check_counts(plans.LARGEST)
+    check_counts(plans.SINGLES_150)
     check_lengths()
-    check_depths()
     check_run(plans.PLAN_A, 0, 9)
     check_run(plans.near_a(M=3), 125, 9)
     check_run(plans.near_a(M=1), 127, 3)
     check_run(plans.near_a([(850, 853)], [900], M=31), 100, 64)
-    check_run(plans.PLAN_B, 62, 5)
-    check_run(plans.near_plan_b(M=3), 126, 5)
-    check_run(plans.near_plan_b(M=1), 127, 2)
-    check_run(plans.near_plan_b([(1700, 1707)], [1800], M=16), 120, 18)
-    check_grounds(plans.PLAN_A, 636, 1029)
-    check_grounds(plans.PLAN_B, 1285, 2052)
+    check_grounds()
 
 
 if __name__ == '__main__':
     check_facts()
-    print('the model agrees with the papers')
+    print('the model agrees with the paper')

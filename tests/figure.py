@@ -10,10 +10,10 @@ first emitter's model (tests/emitter.py).
 
 From a fresh start both emitters give the same: the same steps, refused ones among them, are answered
 alike and send the same symbols; a store that is too short is ground 17 of the first and 27 of the
-second.  That is compared here, over random plans of both devices and several depths, N_I a multiple of
-the depth and not, from phases before the wrap from 127 to 0; with it, that nothing but filler is thrown
-away, that the lines hold what the first emitter's store holds, and how long the literal store is.  Then
-the second model is bent in turn, and some run has to notice.
+second.  That is compared here, over random plans of several depths, N_I a multiple of the depth and not,
+from phases before the wrap from 127 to 0; with it, that nothing but filler is thrown away, that the lines
+hold what the first emitter's store holds, and how long the literal store is.  Then the second model is
+bent in turn, and some run has to notice.
 """
 
 import random
@@ -25,8 +25,8 @@ from typing import NamedTuple
 sys.dont_write_bytecode = True
 
 import plans
-from emitter import EMITTER_25, EMITTER_50, Emitter, Given, emitter_length, full, longest_of, width, with_load
-from longstore import DEPTHS, DEPTHS_25, some_plan, some_plan_25
+from emitter import FULL, Emitter, Given, emitter_length
+from longstore import DEPTHS, some_plan
 
 SCATTERED, FILLER = 0x8000, 0x8001
 SPARE = [7, 7]                      # cells of the store past its places
@@ -119,8 +119,8 @@ class Figure(Emitter):
     drawing = Drawing
     thrown = ()                     # what the last step threw away
 
-    def __init__(self, *devices):
-        super().__init__(*devices)
+    def __init__(self, *limits):
+        super().__init__(*limits)
         self.drawings = {}          # by N_I and M
 
     def drawing_of(self, at):
@@ -128,8 +128,8 @@ class Figure(Emitter):
             self.drawings[at.n, at.m] = self.drawing(at.n, at.m)
         return self.drawings[at.n, at.m]
 
-    def dummy(self, at):
-        return at.limits.filler_mark
+    def dummy(self):
+        return self.limits.filler_mark
 
     # Each ground answers its place, or None if it does not hold.
 
@@ -142,16 +142,16 @@ class Figure(Emitter):
             return 0
         return None
 
-    def phase_back(self, at, phase, b):
-        return (phase - b) % at.limits.phases
+    def phase_back(self, phase, b):
+        return (phase - b) % self.limits.phases
 
     def fresh_lines(self, at, phase):
         """What the M - 1 symbols before leave in the lines.  They are flushes."""
         drawing = self.drawing_of(at)
-        lines = drawing.lines_in([at.limits.filler_mark] * drawing.length())
+        lines = drawing.lines_in([self.limits.filler_mark] * drawing.length())
         for b in range(at.m - 1, 0, -1):
-            before = self.input_symbol(at, self.phase_back(at, phase, b), None)
-            drawing.through(lines, drawing.with_dummies(before, self.dummy(at)))
+            before = self.input_symbol(at, self.phase_back(phase, b), None)
+            drawing.through(lines, drawing.with_dummies(before, self.dummy()))
         return lines
 
     def fresh(self, plan, phase, store):
@@ -163,22 +163,22 @@ class Figure(Emitter):
         self.fill(store, self.drawing_of(at).side_by_side(self.fresh_lines(at, phase)))
         return ('fresh', phase)
 
-    def step(self, plan, phase, store, data, symbol, profile=None):
+    def step(self, plan, phase, store, data, symbol, profile=FULL):
         """One step; data None is a flush, which has no profile.  ('sent', next phase), with
         store and symbol written; or ('refused', number, place, phase), with nothing changed."""
-        profile = None if data is None else full(plan) if profile is None else profile
+        profile = None if data is None else profile
         refused = self.refusal(plan, Given(phase, store, data, symbol, profile=profile))
         if refused:
             return (*refused, phase)
         at = self.layout(plan)
         drawing = self.drawing_of(at)
         lines = drawing.lines_in(store)
-        given = drawing.with_dummies(self.input_symbol(at, phase, data), self.dummy(at))
+        given = drawing.with_dummies(self.input_symbol(at, phase, data), self.dummy())
         out = drawing.through(lines, given)
         self.fill(store, drawing.side_by_side(lines))
         self.send(at, drawing.kept(out), symbol)
         self.thrown = drawing.thrown(out)
-        return ('sent', self.next_phase(at, phase))
+        return ('sent', self.next_phase(phase))
 
 
 def literal_length(n, m):
@@ -189,22 +189,19 @@ def literal_length(n, m):
 # --- what the papers say -----------------------------------------------------
 
 def check_lengths():
-    """The closed form, Plan A, Plan B, the largest plans, and the length that is enough for every plan."""
+    """The closed form, Plan A, the largest plan, and the length that is enough for every plan."""
     for m in range(1, 33):
-        for n in (1, m, 10 * m, 10 * m + 1, 11 * m - 1, 3745, 7537):
+        for n in (1, m, 10 * m, 10 * m + 1, 11 * m - 1, 3745):
             drawing = Drawing(n, m)
             assert drawing.length() == literal_length(n, m)
             assert 0 <= drawing.dummies() < m
             assert literal_length(n, m) >= emitter_length(n, m)
             assert n % m or literal_length(n, m) == emitter_length(n, m)
-    a, largest, b, largest_25 = Drawing(425, 4), Drawing(3745, 32), Drawing(858, 4), Drawing(7537, 16)
+    a, largest = Drawing(425, 4), Drawing(3745, 32)
     assert (a.j, a.dummies(), a.length()) == (107, 3, 642)
     assert [a.line_length(r) for r in range(4)] == [0, 107, 214, 321]
     assert (largest.j, largest.dummies(), largest.length()) == (118, 31, 58528)
-    assert (b.j, b.dummies(), b.length()) == (215, 2, 1290)
-    assert (largest_25.j, largest_25.dummies(), largest_25.length()) == (472, 15, 56640)
-    assert longest_of(literal_length, EMITTER_50) == 58528
-    assert longest_of(literal_length, EMITTER_25) == 56640
+    assert max(literal_length(n, m) for n in range(3746) for m in range(1, 33)) == 58528
 
 
 def check_delays():
@@ -238,18 +235,17 @@ def check_fresh(plan, phase):
     assert store == want + SPARE
     other = [5] * drawing.length() + SPARE
     for b in range(at.m - 1, 0, -1):
-        assert model.step(plan, (phase - b) % 128, other, None, [9] * width(plan))[0] == 'sent'
+        assert model.step(plan, (phase - b) % 128, other, None, [9] * 4096)[0] == 'sent'
     assert other == store
 
 
-def check_grounds(a, need):
-    """Grounds 25, 16, 17, 27, 18 and 19 in order, at their limits, and nothing changed.  `need` is how long
-    the plan's literal store is."""
-    model, right = Figure(), width(a)
+def check_grounds():
+    """Grounds 25, 16, 17, 27, 18 and 19 in order, at their limits, and nothing changed."""
+    model, a, need = Figure(), plans.PLAN_A, 642
     count = model.data_count(a, 5)
     good, bad = [3] * count, [3] * (count - 1) + [16384]
 
-    def step(want, phase=5, size=need, data=good, cells=right, plan=a, profile=full(a)):
+    def step(want, phase=5, size=need, data=good, cells=4096, plan=a, profile=FULL):
         store, symbol = [9] * size, [9] * cells
         answer = model.step(plan, phase, store, data, symbol, profile)
         if want == 'sent':
@@ -263,14 +259,13 @@ def check_grounds(a, need):
         step('sent', size=size, data=None)
     step((1, 0), plan=b'', profile=b'', phase=128, cells=0, size=0, data=bad[1:])
     step((25, 0), profile=b'', phase=128, cells=0, size=0, data=bad[1:])
-    step((25, 700), profile=with_load(full(a), 700, 5), size=0)
+    step((25, 700), profile=FULL[:700] + b'\5' + FULL[701:], size=0)
     step('sent', profile=b'', data=None)
     for data in (bad[1:], bad, good, None):
         step((16, 0), phase=128, cells=0, size=0, data=data)
         step((16, 0), phase=128, size=need - 1, data=data)
-        for cells in {right - 1, right + 1, 4096, 8192} - {right}:
-            step((17, 0), cells=cells, size=need - 1, data=data)
-            step((17, 0), cells=cells, size=0, data=data)
+        step((17, 0), cells=4095, size=need - 1, data=data)
+        step((17, 0), cells=4097, size=0, data=data)
         step((27, 0), size=need - 1, data=data)
         step((27, 0), size=0, data=data)
     step((18, 0), data=bad[1:])
@@ -279,7 +274,7 @@ def check_grounds(a, need):
     assert model.fresh(a, 128, []) == ('refused', 16, 0)
     assert model.fresh(a, 127, [9] * (need - 1)) == ('refused', 27, 0)
     assert model.fresh(a, 127, [9] * need) == ('fresh', 127)
-    assert model.fresh(plans.second(a, 0, 1), 127, []) == ('fresh', 127)        # no cell is delayed
+    assert model.fresh(plans.near_a(M=1), 127, []) == ('fresh', 127)        # no cell is delayed
 
 
 def check_facts():
@@ -288,10 +283,7 @@ def check_facts():
     check_fresh(plans.PLAN_A, 0)
     check_fresh(plans.near_a(M=3), 127)
     check_fresh(plans.near_a(M=1), 5)
-    check_fresh(plans.PLAN_B, 65)
-    check_fresh(plans.near_plan_b(M=3), 127)
-    check_grounds(plans.PLAN_A, 642)
-    check_grounds(plans.PLAN_B, 1290)
+    check_grounds()
 
 
 # --- what is asked -----------------------------------------------------------
@@ -335,25 +327,20 @@ def some_runs():
     yield Run('depth 32 from phase 5', plans.near_a(M=32), 5, some_sends(rng, 32, 40))
     yield Run('depth 3 over two wraps', plans.near_a(M=3), 120, some_sends(rng, 3, 140))
     yield Run('largest', plans.LARGEST, 100, some_sends(rng, 32, 36))
-    for m in DEPTHS_25:
-        for divides in (True,) if m == 1 else (True, False):
-            start = rng.randrange(126 - m, 128)
-            yield Run('25 kHz, depth %d, a multiple of it: %s, phase %d' % (m, divides, start),
-                      some_plan_25(rng, m, divides), start, some_sends(rng, m, m + 6))
-    yield Run('25 kHz, largest', plans.LARGEST_25, 118, some_sends(rng, 16, 18))
 
 
-def given_to(model, plan, phase, send, need):
+def given_to(model, at, phase, send, need):
     """Phase, how much of the store, data, symbol and profile."""
-    count = model.count(model.layout(plan), phase) - ('a cell too few' in send.faults)
+    count = model.count(at, phase) - ('a cell too few' in send.faults)
     data = [(send.seed + i * 48271) % 16384 for i in range(count)]
     if 'a cell too high' in send.faults:
         data[send.seed % count] = 16384 + send.seed % 49152
     held = need - 1 if 'store' in send.faults else need + send.spare
-    right, profile = width(plan), full(plan)
-    cells = right + (send.seed % 2 * 2 - 1) * ('symbol' in send.faults)
+    cells = 4096 + (send.seed % 2 * 2 - 1) * ('symbol' in send.faults)
+    profile = FULL
     if 'profile' in send.faults:
-        profile = profile[1:] if send.seed % 3 == 0 else with_load(profile, send.seed % right, 15)
+        k = send.seed % 4096
+        profile = FULL[1:] if send.seed % 3 == 0 else FULL[:k] + bytes([15]) + FULL[k + 1:]
     return phase + 128 * ('phase' in send.faults), held, None if send.flush else data, [9] * cells, profile
 
 
@@ -366,6 +353,7 @@ def cells_of(cells):
 def outcomes(model, run, need):
     """Of each fresh start and step: what was wrong, the answer, the symbol, and the store, of `need` places and
     two cells."""
+    at = model.layout(run.plan)
     store = [7] * need + SPARE
     for more, held in ((128, need), (128, max(need - 1, 0)), (0, max(need - 1, 0)), (0, need + 2)):
         part = store[:held]
@@ -374,7 +362,7 @@ def outcomes(model, run, need):
         yield ('store',), answer, [], store
     phase = run.start
     for send in run.sends:
-        asked, held, data, symbol, profile = given_to(model, run.plan, phase, send, need)
+        asked, held, data, symbol, profile = given_to(model, at, phase, send, need)
         part = store[:held]
         answer = model.step(run.plan, asked, part, data, symbol, profile)
         store[:held] = part
@@ -591,8 +579,8 @@ def dummy_bends():
     yield 'two dummies too many', drawn(dummies=lambda self: Drawing.dummies(self) + 2)
     yield 'a turn of dummies too many', drawn(dummies=lambda self: Drawing.dummies(self) + self.m)
     yield 'M - 1 dummies', drawn(dummies=lambda self: self.m - 1)
-    yield 'dummies are placeholders', {'dummy': lambda self, at: SCATTERED}
-    yield 'dummies are 0', {'dummy': lambda self, at: 0}
+    yield 'dummies are placeholders', {'dummy': lambda self: SCATTERED}
+    yield 'dummies are 0', {'dummy': lambda self: 0}
     yield 'dummies are the last cell again', drawn(
         with_dummies=lambda self, cells, dummy: cells + [cells[-1]] * self.dummies())
     yield 'dummies do not move the lines', drawn(
@@ -649,7 +637,7 @@ def ground_bends():
 
 def back(phase_back):
     """The symbols before a fresh start at other phases."""
-    return {'phase_back': lambda self, at, phase, b: phase_back(phase, b)}
+    return {'phase_back': lambda self, phase, b: phase_back(phase, b)}
 
 
 def fresh_of(change):
@@ -675,7 +663,7 @@ def fresh_bends():
     yield 'fresh phases do not go round', back(lambda phase, b: max(phase - b, 0))
 
 
-def passes_on(self, plan, phase, store, data, symbol, profile=None):
+def passes_on(self, plan, phase, store, data, symbol, profile=FULL):
     """A refused step passes a symbol on."""
     answer = Figure.step(self, plan, phase, store, data, symbol, profile)
     if answer[0] == 'refused' and answer[1] in (18, 19):
@@ -683,7 +671,7 @@ def passes_on(self, plan, phase, store, data, symbol, profile=None):
     return answer
 
 
-def flush_keeps(self, plan, phase, store, data, symbol, profile=None):
+def flush_keeps(self, plan, phase, store, data, symbol, profile=FULL):
     """A flush leaves the lines as they are."""
     return Figure.step(self, plan, phase, list(store) if data is None else store, data, symbol, profile)
 
@@ -691,8 +679,8 @@ def flush_keeps(self, plan, phase, store, data, symbol, profile=None):
 def step_bends():
     yield 'a refused step passes a symbol through the lines', {'step': passes_on}
     yield 'a flush leaves the lines', {'step': flush_keeps}
-    yield 'the phase goes round at 127', {'next_phase': lambda self, at, phase: (phase + 1) % 127}
-    yield 'the phase stays', {'next_phase': lambda self, at, phase: phase}
+    yield 'the phase goes round at 127', {'next_phase': lambda self, phase: (phase + 1) % 127}
+    yield 'the phase stays', {'next_phase': lambda self, phase: phase}
 
 
 def bends():
@@ -707,8 +695,6 @@ def main():
     check_facts()
     for depth in DEPTHS:
         check_fresh(plans.near_a(M=depth), 4 * depth - 1)
-    for depth in DEPTHS_25:
-        check_fresh(plans.near_plan_b(M=depth), 4 * depth - 1)
     wrong, sent, refused, by_27, thrown = 0, 0, 0, 0, 0
     runs = []
     for run in some_runs():

@@ -13,13 +13,13 @@ What figurecheck does with an accepted plan: for every starting phase s, a fresh
 kind = (s + t) mod 6, j the phase and nd = N_D at j, each symbol has two steps, given to both:
 
 1. A wrong one: 0 emit nd - 1 cells, 1 emit with the cell at nd // 2 put to 16384, 2 emit with
-   phase j + 128, 3 flush with phase 128, 4 flush into a symbol of one cell too few, 5 emit with
-   one cell of the store too few, not tried if M is 1, where none is needed.
+   phase j + 128, 3 flush with phase 128, 4 flush into 4,095 cells, 5 emit with one cell of the
+   store too few, not tried if M is 1, where none is needed.
 2. The right one: a flush if t mod 3 is 2, else an emit.
 
 The data is that of linkcheck (tests/links.py).  Answers and symbols of both are compared after
 every step.  Plan A is run whole with the models, of other plans the line is counted; second
-emitters with a bent commutator are noticed.  docs/FIGURECHECK.md has the lines of Plan A and Plan B.
+emitters with a bent commutator are noticed.  docs/FIGURECHECK.md has Plan A's line.
 """
 
 import sys
@@ -30,7 +30,7 @@ sys.dont_write_bytecode = True
 import figure
 import plans
 import stored
-from emitter import Emitter, width
+from emitter import Emitter
 from figure import Drawing, Figure
 from links import PLANS, compare, data_of, is_flush, symbols_of
 from stored import ROOT
@@ -88,18 +88,18 @@ def difference(codes, answers, symbols):
     return None
 
 
-def given(cells, kind, t, phase, data):
-    """Phase, data and symbol of a step; a symbol has so many cells."""
+def given(kind, t, phase, data):
+    """Phase, data and symbol of a step."""
     half = len(data) // 2
     flush = kind in (3, 4) or kind == RIGHT and is_flush(t)
     changed = {0: data[:-1], 1: [*data[:half], 16384, *data[half + 1:]]}
     return ({2: phase + 128, 3: 128}.get(kind, phase), None if flush else changed.get(kind, data),
-            [BEFORE] * (cells - (kind == 4)))
+            [BEFORE] * (4096 - (kind == 4)))
 
 
 def step(model, plan, store, kind, t, phase, data):
     """The answer and the symbol of a step; kind 5 has a cell of the store too few."""
-    phase, data, symbol = given(width(plan), kind, t, phase, data)
+    phase, data, symbol = given(kind, t, phase, data)
     part = store[:-1] if kind == 5 else store
     return model.step(plan, phase, part, data, symbol), symbol
 
@@ -136,8 +136,7 @@ def follow(plan, second, starts):
 def check_steps():
     """The steps against the counts, and bent commutators, which are noticed."""
     for plan, starts in ((plans.PLAN_A, range(128)), (plans.near_a(M=1), range(0, 128, 5)),
-                         (plans.near_a(M=7), range(125, 128)), (plans.PLAN_B, range(61, 128, 11)),
-                         (plans.near_plan_b(M=1), range(122, 128)), (plans.near_plan_b(M=16), [110])):
+                         (plans.near_a(M=7), range(125, 128))):
         assert follow(plan, Figure(), starts) == line(plan, starts)
     for name, methods in figure.commutator_bends():
         told = follow(plans.PLAN_A, type('Bent', (Figure,), methods)(), range(3))
@@ -152,9 +151,8 @@ def main():
         files = [Path(name) for name in arguments[1:]] or sorted(PLANS.glob('*.plan'))
         sys.exit(1 if compare(arguments[0], files, line) else 0)
     check_steps()
-    plan_a, plan_b = ((PLANS / name).read_bytes() for name in ('plan-a.plan', 'plan-b.plan'))
-    page = (ROOT / 'docs/FIGURECHECK.md').read_text()
-    assert all(' %s\n' % line(plan) in page for plan in (plan_a, plan_b))
+    plan_a = (PLANS / 'plan-a.plan').read_bytes()
+    assert ' %s\n' % line(plan_a) in (ROOT / 'docs/FIGURECHECK.md').read_text()
     print(line(plan_a))
     stored.run('figurecheck', plan_a, (line(plan_a) + '\n').encode())
 

@@ -1,5 +1,5 @@
 #!/usr/bin/env python3
-"""Makes the test data of fillcases from the second model of loads, filling and the way back (requests 07 and 11).
+"""Makes the test data of fillcases from the second model of loads, filling and the way back (request 07).
 
     python3 tests/fills.py              writes crates/fillcases/stdin and stdout
     python3 tests/fills.py --check      compares them, exits 1 on a difference
@@ -12,25 +12,23 @@ acts, nine numbers each.  The end of the input ends the list.
 
 What the program does with a case:
 
-- A symbol has `width` cells: 8,192 if the plan's first byte is 4, which names the 25 kHz device,
-  else 4,096.
-- The profile has 8,193 bytes.  Byte k is the load of index (k * step + turn) % 11, where index 0
+- The profile has 4,097 bytes.  Byte k is the load of index (k * step + turn) % 11, where index 0
   is load 0, index 1 load 4 and index i from 2 on load i + 4: 0, 4, 6, 7, .. 14.
 - The stream has 8,192 bytes.  With seed 0 each is 255; else x starts as the seed, and each byte
   is x % 256 of the next x = x * 48271 % 2147483647.
 - `back`, the stream that is written, has 8,192 bytes, each 165.  The data, what is handed out, and
-  the line have `width` cells each, and the two stores 60,000 each, all 43981.
+  the line have 4,096 cells each, and the two stores 60,000 each, all 43981.
 - `sum` is the checksum, 0 at the start: mix(sum, v) = (sum * 48271 + v) % 2147483647.
 - First a fresh emitter and a fresh receiver at the starting phase, each with its whole store.
   Where one is refused, its state is the starting phase, and heard 0.  Nothing is mixed.
 - Then the acts, in order.  The nine numbers of an act:
      kind      what it does, see below; 6 and more count as 5
      phase     of 0 to 2 the phase; of 3 to 5 added to that of the state, modulo 2^32
-     profile   how many bytes of the profile are given, from the first (at most 8,193)
+     profile   how many bytes of the profile are given, from the first (at most 4,097)
      load      upper two bytes a place, lower two a load: the profile has that byte (its lower eight
                bits) at that place; place 65535 is none
      cells     how many cells of the data, or of what was handed out, are lent, from the first (at
-               most `width`); 3 has it too, 4 and 5 do not look at it
+               most 4,096); 3 has it too, 4 and 5 do not look at it
      cell      upper two bytes a place, lower two a cell: of 1 and 3 the data, of 2 what was handed
                out, of 5 the line has that cell at that place; place 65535 is none
      room      of 0 how many bytes of the stream are given, of 1 and 2 of back (at most 8,192); of 3
@@ -43,7 +41,7 @@ What the program does with a case:
      2  the way back of what was handed out into back
      3  emit the data onto the line, with the emitter's store
      4  flush onto the line, with the emitter's store; no profile is given
-     5  receive the line, with the receiver's store and all of what is handed out
+     5  receive the line, with the receiver's store and all 4,096 cells of what is handed out
 - After each act its answer is mixed: of 0 to 2 for a count 1 and the count, for a refusal 2, number
   and place; of 3 and 4 for a sent symbol 1 and the phase, for a refusal 2, number, place and
   phase; of 5 for warming 1, for data 3 and the count, for a refusal 2, number and place, each time
@@ -57,8 +55,6 @@ refused and how many were; what the counts of the acts 0 to 2 add up to, modulo 
 
 import struct
 import sys
-from functools import lru_cache
-from types import SimpleNamespace
 
 sys.dont_write_bytecode = True
 
@@ -66,13 +62,11 @@ import loads
 import plans
 import receives
 import stored
-from emits import KHZ25, WIDTHS, limited_25
-from emitter import width
 from loads import LISTED, Filling
 from stored import PRIME, mix, mix_cells
 
 FILL, UNFILL, UNFILL_HANDED, EMIT, FLUSH, RECEIVE = range(6)
-PROFILE, STREAM, STORE = 8193, 8192, 60000
+PROFILE, CELLS, STREAM, STORE = 4097, 4096, 8192, 60000
 TOP, FAR = 2 ** 32 - 1, 2 ** 64 - 1
 UNTOUCHED, BEFORE = 43981, 165
 NONE = 65535 * 65536
@@ -81,12 +75,10 @@ BAD_LOADS = (1, 2, 3, 5, 15, 16, 255)
 
 # --- what is generated -----------------------------------------------------
 
-@lru_cache(maxsize=None)
 def profile_of(step, turn):
     return bytes(LISTED[(k * step + turn) % 11] for k in range(PROFILE))
 
 
-@lru_cache(maxsize=None)
 def stream_of(seed):
     if seed == 0:
         return b'\xff' * STREAM
@@ -101,7 +93,7 @@ def change(place, value):
     return place * 65536 + value
 
 
-def act(kind, phase, profile, cells, load=NONE, cell=NONE, room=STREAM, start=0):
+def act(kind, phase=0, profile=4096, load=NONE, cells=CELLS, cell=NONE, room=STREAM, start=0):
     return kind, phase % (TOP + 1), profile, load, cells, cell, room, start >> 32, start & TOP
 
 
@@ -114,8 +106,7 @@ class Case:
     def __init__(self, name, plan, start, step, turn, seed):
         self.name, self.plan, self.start = name, plan, start
         self.step, self.turn, self.seed = step, turn, seed
-        self.right = width(plan)
-        self.profile = profile_of(step, turn)[:self.right]
+        self.profile = profile_of(step, turn)[:4096]
         self.at = self.sound.layout(plan)
         self.acts, self.wants = [], []
 
@@ -148,7 +139,7 @@ class Case:
             other.setdefault('room', STORE)
         if kind == EMIT and 'cells' not in other:
             other['cells'] = self.count(self.sender)
-        self.acts.append(act(kind, phase, **{'profile': self.right, 'cells': self.right, **other}))
+        self.acts.append(act(kind, phase, **other))
         self.wants.append(want)
         return self
 
@@ -160,11 +151,11 @@ def some_positions(n):
     return sorted({0, 1, n // 2, n - 2, n - 1})
 
 
-def one_load(index, plan=plans.near_a(M=1), device=''):
+def one_load(index):
     """One load everywhere, at M = 1, where what is sent comes back at once: cells at the limit, one above it and at 0, in emit, receive
     and the way back, at the first, the last and some other data cell."""
     load = LISTED[index]
-    case = Case(device + 'load %d everywhere' % load, plan, 127 - 9 * index, 0, index, 0)
+    case = Case('load %d everywhere' % load, plans.near_a(M=1), 127 - 9 * index, 0, index, 0)
     most, count = case.sound.limit(load), case.count(case.start)
     case.do(FILL)
     for c in some_positions(count):
@@ -183,9 +174,9 @@ def one_load(index, plan=plans.near_a(M=1), device=''):
     return case
 
 
-def mixed_limits(plan, start, step, turn, device=''):
+def mixed_limits(plan, start, step, turn):
     """The limit of each of the first data cells, of each load at least once, and one more, in emit, the way back and receive."""
-    case = Case(device + 'limits of mixed loads, %d and %d' % (step, turn), plan, start, step, turn, 0)
+    case = Case('limits of mixed loads, %d and %d' % (step, turn), plan, start, step, turn, 0)
     limits, count = case.limits(start), case.count(start)
     case.do(FILL, start=5)
     shown = sorted({*range(12), count // 2, count - 1, *(case.loads(start).index(load) for load in set(case.loads(start)))})
@@ -232,7 +223,7 @@ def starts_and_rooms(name, plan, start, step, turn, seed):
         for kind in (FILL, UNFILL):
             case.do(kind, start=bit, room=room)
             case.do(kind, (26, 0), start=bit, room=room - 1)
-    room = 800 * case.right // 4096
+    room = 800
     for kind in (FILL, UNFILL):
         case.do(kind, start=8 * room - need, room=room)
         for late in (8 * room - need + 1, 8 * room - 1, 8 * room, 8 * room + 1, TOP, TOP + 1, TOP + 1 + 3, 2 ** 61 + 3, 2 ** 63,
@@ -272,34 +263,34 @@ def one_cell():
     return case
 
 
-def profile_cases(name, plan, roles, lengths):
-    """25: lengths, loads that are not listed at these subcarriers and at one of every role, and its place in the order."""
-    case = Case(name, plan, 14, 3, 5, 77)
-    marks, last = case.sound.marks_at(case.at, 14), case.right - 1
-    roles = [0, last, *roles, *(marks.index(mark) for mark in (0x8000, 0x8003, 0x8004, None))]
+def profile_cases():
+    """25: lengths, loads that are not listed at subcarriers of every role, and its place in the order."""
+    case = Case('profiles that are refused', plans.near_a([(850, 853)], [900], M=2), 14, 3, 5, 77)
+    marks = case.sound.marks_at(case.at, 14)
+    roles = [0, 4095, 850, 900, *(marks.index(mark) for mark in (0x8000, 0x8003, 0x8004, None))]
     case.do(FILL)
     for kind in (FILL, UNFILL, EMIT, RECEIVE):
-        for length in (0, 1, last, last + 2, *lengths):
+        for length in (0, 1, 4095, 4097):
             case.do(kind, (25, 0), profile=length)
         for i, place in enumerate(roles):
             case.do(kind, (25, place), load=change(place, BAD_LOADS[i % 7]))
         for i, load in enumerate(BAD_LOADS):
             case.do(kind, (25, 2000 + i), load=change(2000 + i, load))
-        bad = {'load': change(last, 5)}
-        case.do(kind, (25, last), **bad, **({'phase': 128, 'cells': 0, 'room': 0} if kind < EMIT else {'phase': 128, 'room': 0}))
-        case.do(kind, (25, 0), profile=last, load=change(9, 5), room=0)
-        case.do(kind, (25, 0), profile=last + 2, load=change(last - 1, 255))
-        case.do(kind, (25, last), **bad, cell=change(0, 65535))
+        bad = {'load': change(4095, 5)}
+        case.do(kind, (25, 4095), **bad, **({'phase': 128, 'cells': 0, 'room': 0} if kind < EMIT else {'phase': 128, 'room': 0}))
+        case.do(kind, (25, 0), profile=4095, load=change(9, 5), room=0)
+        case.do(kind, (25, 0), profile=4097, load=change(4094, 255))
+        case.do(kind, (25, 4095), **bad, cell=change(0, 65535))
     case.do(FLUSH, profile=0, load=change(3, 3))
     for load in LISTED:
-        case.do(UNFILL, load=change(last, load)).do(FILL, load=change(0, load))
+        case.do(UNFILL, load=change(4095, load)).do(FILL, load=change(0, load))
     case.do(EMIT, (19, 0), cell=change(0, 65535))
     return case
 
 
-def order_cases(name, plan):
+def order_cases():
     """16, 18, 26 and 19 in their order, of fill and the way back; 25, 16, 17 and 18, 19, 20 of a step."""
-    case = Case(name, plan, 127, 4, 2, 5)
+    case = Case('the order of the grounds', plans.near_a(M=3), 127, 4, 2, 5)
     count = case.count(127)
     case.do(FILL)
     high = {'cell': change(0, 65535)}
@@ -307,7 +298,7 @@ def order_cases(name, plan):
         for phase in (128, 129, 255, 65536, TOP):
             case.do(kind, (16, 0), phase=phase, cells=count)
             case.do(kind, (16, 0), phase=phase, cells=1, room=0, **high)
-        for cells in (0, 1, count - 1, count + 1, case.right):
+        for cells in (0, 1, count - 1, count + 1, CELLS):
             case.do(kind, (18, 0), cells=cells)
             case.do(kind, (18, 0), cells=cells, room=0, start=FAR, **high)
         case.do(kind, (26, 0), room=0, **high)
@@ -354,36 +345,9 @@ def all_cases():
     cases += [starts_and_rooms('starts, mixed loads', plans.PLAN_A, 5, 3, 1, 17),
               starts_and_rooms('starts, load 4', plans.PLAN_A, 99, 0, 1, 18),
               starts_and_rooms('starts, load 13', plans.near_a(M=3), 127, 0, 9, 19)]
-    cases += [without_bits(), one_cell(),
-              profile_cases('profiles that are refused', plans.near_a([(850, 853)], [900], M=2), (850, 900), ()),
-              order_cases('the order of the grounds', plans.near_a(M=3)),
-              flush_handed(), refused_plan('no bytes', b'', (1, 0)),
+    cases += [without_bits(), one_cell(), profile_cases(), order_cases(), flush_handed(), refused_plan('no bytes', b'', (1, 0)),
               refused_plan('14', plans.near_a([(850, 854)]), (14, 835)), refused_plan('15', plans.ONE_PILOT_FEWER, (15, 0))]
     return cases
-
-
-def its_profile():
-    """A profile of the 25 kHz device under Plan A."""
-    case = Case(KHZ25 + 'its profile under plan A', plans.PLAN_A, 126, 1, 4, 20)
-    case.do(FILL)
-    for kind in (FILL, UNFILL, EMIT, RECEIVE):
-        case.do(kind, (25, 0), profile=WIDTHS - case.right)
-    return case.do(EMIT)
-
-
-def cases_25():
-    """Those of the 25 kHz device, with one of the other that is given its profile."""
-    excluded = plans.near_plan_b([(1700, 1707)], [1800], M=2)
-    return [mixed_limits(plans.PLAN_B, 64, 1, 0, KHZ25),
-            *(one_load(index, plans.near_plan_b(M=1), KHZ25) for index in (0, 6, 10)),
-            stream_run(KHZ25 + 'a stream, depth 3', plans.near_plan_b(M=3), 126, 6, 8, 21, 3, 3),
-            stream_run(KHZ25 + 'a stream, depth 16', plans.near_plan_b(M=16), 122, 2, 6, 22, 2, 12),
-            stream_run(KHZ25 + 'a stream of the largest plan', plans.LARGEST_25, 127, 8, 2, 23, 1, 6),
-            starts_and_rooms(KHZ25 + 'starts, mixed loads', plans.PLAN_B, 70, 3, 1, 24),
-            profile_cases(KHZ25 + 'profiles that are refused', excluded, (1700, 1800, 4095, 4096), (4095, 4096, 4097)),
-            its_profile(),
-            order_cases(KHZ25 + 'the order of the grounds', plans.near_plan_b(M=3)),
-            refused_plan(KHZ25 + 'depth 17', plans.near_plan_b(M=17), (4, 0))]
 
 
 # --- the lines -------------------------------------------------------------
@@ -395,7 +359,7 @@ class Run:
         self.model, self.plan = model, plan
         self.profile, self.stream = bytearray(profile_of(step, turn)), stream_of(seed)
         self.back = bytearray([BEFORE]) * STREAM
-        self.data, self.handed, self.line = ([UNTOUCHED] * width(plan) for _ in range(3))
+        self.data, self.handed, self.line = ([UNTOUCHED] * CELLS for _ in range(3))
         self.sending, self.listening = [UNTOUCHED] * STORE, [UNTOUCHED] * STORE
         answer = model.fresh(plan, start, self.sending)
         self.sender = answer[1] if answer[0] == 'fresh' else start
@@ -491,7 +455,7 @@ def check_want(case, i, answer):
 
 
 def make():
-    cases, model = all_cases() + cases_25(), Filling()
+    cases, model = all_cases(), Filling()
     assert len({case.name for case in cases}) == len(cases), 'two cases of one name'
     lines, given = [], b''
     for case in cases:
@@ -550,7 +514,7 @@ class Total(receives.Total, Filling):
     def ground_20(self, at, given):
         if given.arriving is None:
             return None
-        return Filling.ground_20(self, at, given._replace(profile=(given.profile + bytes(len(at.marks)))[:len(at.marks)]))
+        return Filling.ground_20(self, at, given._replace(profile=(given.profile + bytes(CELLS))[:CELLS]))
 
 
 def bent(**methods):
@@ -716,7 +680,7 @@ def ground_mutants():
     def early(self, plan, given, order=None):
         """25 before the plan."""
         if given.profile is not None:
-            place = Total.ground_25(self, SimpleNamespace(limits=self.device(plan)), given)
+            place = Total.ground_25(self, None, given)
             if place is not None:
                 return ('refused', 25, place)
         return Total.refusal(self, plan, given, order)
@@ -733,30 +697,25 @@ def ground_mutants():
         """25 by another test of the profile."""
         return bent(ground_25=lambda self, at, given: None if given.profile is None else test(self, at, given.profile))
 
-    def lowest(profile, tried):
+    def lowest(self, profile, tried):
         return next((k for k in tried if k < len(profile) and profile[k] not in LISTED), None)
     every = range(PROFILE)
-    yield '25: length not tried', profile(lambda self, at, w: lowest(w, range(at.limits.profile)))
-    yield '25: longer profiles good', profile(
-        lambda self, at, w: 0 if len(w) < at.limits.profile else lowest(w, range(at.limits.profile)))
-    yield '25: shorter profiles good', profile(lambda self, at, w: 0 if len(w) > at.limits.profile else lowest(w, every))
+    yield '25: length not tried', profile(lambda self, at, w: lowest(self, w, range(4096)))
+    yield '25: longer profiles good', profile(lambda self, at, w: 0 if len(w) < 4096 else lowest(self, w, range(4096)))
+    yield '25: shorter profiles good', profile(lambda self, at, w: 0 if len(w) > 4096 else lowest(self, w, every))
     yield '25: length after the loads', profile(
-        lambda self, at, w: lowest(w, every) if lowest(w, every) is not None else 0 if len(w) != at.limits.profile else None)
-    yield '25: place of the length', profile(lambda self, at, w: len(w) if len(w) != at.limits.profile else lowest(w, every))
+        lambda self, at, w: lowest(self, w, every) if lowest(self, w, every) is not None else 0 if len(w) != 4096 else None)
+    yield '25: place of the length', profile(lambda self, at, w: len(w) if len(w) != 4096 else lowest(self, w, every))
     yield '25: place is the load', profile(
-        lambda self, at, w: 0 if len(w) != at.limits.profile else None if lowest(w, every) is None else w[lowest(w, every)])
-    yield '25: place 0', profile(
-        lambda self, at, w: 0 if len(w) != at.limits.profile or lowest(w, every) is not None else None)
-    parts = {'active': lambda self, at, k: not at.map.excluded[k], 'with a rank': lambda self, at, k: k in at.ranked,
-             'excluded': lambda self, at, k: at.map.excluded[k], 'but 0': lambda self, at, k: k > 0,
-             'but the last': lambda self, at, k: k < at.limits.last_subcarrier,
-             'but the PLC': lambda self, at, k: not self.is_plc(at.map, k),
-             'but continuous pilots': lambda self, at, k: k in at.ranked or at.map.excluded[k] or self.is_plc(at.map, k),
-             'below 4,096': lambda self, at, k: k < 4096}
+        lambda self, at, w: 0 if len(w) != 4096 else None if lowest(self, w, every) is None else w[lowest(self, w, every)])
+    yield '25: place 0', profile(lambda self, at, w: 0 if len(w) != 4096 or lowest(self, w, every) is not None else None)
+    parts = {'active': lambda at, k: not at.map.excluded[k], 'with a rank': lambda at, k: k in at.ranked,
+             'excluded': lambda at, k: at.map.excluded[k], 'but 0': lambda at, k: k > 0, 'but 4095': lambda at, k: k < 4095,
+             'but the PLC': lambda at, k: not at.map.l <= k < at.map.l + 8,
+             'but continuous pilots': lambda at, k: k in at.ranked or at.map.excluded[k] or at.map.l <= k < at.map.l + 8}
     for name, tried in parts.items():
-        yield '%s25: only subcarriers %s' % (KHZ25 if name == 'below 4,096' else '', name), profile(
-            lambda self, at, w, tried=tried: 0 if len(w) != at.limits.profile
-            else lowest(w, [k for k in range(len(at.marks)) if tried(self, at, k)]))
+        yield '25: only subcarriers ' + name, profile(
+            lambda self, at, w, tried=tried: 0 if len(w) != 4096 else lowest(self, w, [k for k in range(4096) if tried(at, k)]))
 
     def remaining(test):
         """26 by another test: bytes, the start, what is needed."""
@@ -810,11 +769,11 @@ def ground_mutants():
         if given.arriving is None:
             return None
         return Total.ground_20(self, at, given._replace(profile=bytes(
-            given.profile[at.subcarriers.index(k)] if k in at.ranked else given.profile[k] for k in range(len(at.marks)))))
+            given.profile[at.subcarriers.index(k)] if k in at.ranked else given.profile[k] for k in range(4096))))
     yield '20: load of the rank', bent(ground_20=by_rank)
     yield '20: load of the subcarrier above', bent(ground_20=lambda self, at, given: None if given.arriving is None else Total.ground_20(
         self, at, given._replace(profile=given.profile[1:] + given.profile[:1])))
-    yield '20: filler by the limit', bent(is_data=lambda self, at, cell, limit: cell <= limit)
+    yield '20: filler by the limit', bent(is_data=lambda self, cell, limit: cell <= limit)
 
 
 def numbered(old, new):
@@ -869,43 +828,15 @@ def rotated(self, plan, profile, phase, stream, start, data):
     return answer
 
 
-def device_mutants():
-    """Numbers of one device for those of the other."""
-    def other(name, **limits):
-        return KHZ25 + name, limited_25(Total, **limits)
-    yield other('a profile of 4,096 bytes', profile=4096)
-    yield other('a profile of 8,191 bytes', profile=8191)
-    yield other('a profile of 8,193 bytes', profile=8193)
-    yield other('a symbol of 4,096 cells', cells=4096)
-    yield other('128 rows', rows=128, row_bits=7)
-    yield other('the phase map straight', scattered_step=1)
-    yield other('a PLC of 8', plc_width=8)
-    yield other('distances halved', distance_1=15, distance_2=24, distance_3=35, distance_4=47)
-    yield other('a depth up to 32', highest_m=32)
-
-    def either(self, at, given):
-        """A profile of either device is good."""
-        loads = given.profile or b''
-        if len(loads) in (4096, 8192):
-            given = given._replace(profile=(loads + bytes(at.limits.profile))[:at.limits.profile])
-        return Total.ground_25(self, at, given)
-    yield KHZ25 + 'its profile is good under the other device', bent(
-        ground_25=lambda self, at, given: (either if at.limits.cells == 4096 else Total.ground_25)(self, at, given))
-    yield KHZ25 + 'the profile of the other device is good', bent(
-        ground_25=lambda self, at, given: (either if at.limits.cells == 8192 else Total.ground_25)(self, at, given))
-
-
 def all_mutants():
     yield 'nothing', bent()
-    for mutants in (load_mutants, bit_mutants, ground_mutants, writing_mutants, device_mutants):
+    for mutants in (load_mutants, bit_mutants, ground_mutants, writing_mutants):
         yield from mutants()
 
 
 def try_mutants(cases, lines):
-    """Those of the 25 kHz device on its cases."""
     def change_of(name, model):
-        return next((case.name for case, want in zip(cases, lines)
-                     if (KHZ25 in case.name or KHZ25 not in name) and line_of(model, case) != want), None)
+        return next((case.name for case, want in zip(cases, lines) if line_of(model, case) != want), None)
     return stored.try_mutants(all_mutants(), change_of, EQUIVALENT, len(cases))
 
 

@@ -9,8 +9,7 @@
 
 Every number and byte that is expected comes from the second model (model.py, emitter.py,
 receiver.py, loads.py, lamp.py, points.py), read as change request 01 says: two bytes a cell, high byte
-first, ground 21 before all others, four numbers of four bytes in the answer.  The calls are of plans of
-both devices; the sizes are those of the device that the model takes by the plan's first byte.
+first, ground 21 before all others, four numbers of four bytes in the answer.
 
 A case file is a list of items; a number is four bytes, high byte first.  Slots 0 to 15 hold the
 buffers: 0 the plan, 1 an emitter's store, 2 a receiver's, 3 data to be sent, 4 the symbol, 5 data
@@ -43,7 +42,6 @@ import sys
 from array import array
 from collections import Counter, defaultdict
 from functools import lru_cache
-from typing import Callable, NamedTuple
 
 sys.dont_write_bytecode = True
 
@@ -53,12 +51,13 @@ import loss
 import plans
 import points
 from compare import RECORD_MAX
-from emitter import EMITTER_25, EMITTER_50, EmitterLimits, emitter_length, full, width
+from emitter import FULL, emitter_length
 from loads import LISTED, Filling, all_bits, some_profile
 from receiver import receiver_length
 from stored import ROOT
 
 ANSWER = 16
+SYMBOL = 4096
 TOP = 2 ** 32 - 1
 FAR = 2 ** 64 - 1                           # the last start
 ODD_NUMBERS = (0x12345678, 0x9ABCDEF0)      # no byte as another
@@ -97,65 +96,14 @@ LEAST = {'pilots': lamp.LIST, 'lights': lamp.LIGHTS}        # bytes of these; wi
 NOT_LOADS = [load for load in range(256) if load not in LISTED]
 BUFFERS = [(name, key) for name, (_, buffers, *_) in CALLS.items() for key in buffers.split()]
 HELPERS = ('number', 'cell', 'put_cell', 'lowest_plc', 'depth', 'emitter_store_bytes', 'receiver_store_bytes',
-           'mark', 'symbol_phase', 'point_load', 'why_role', 'lamp_record_bytes', 'is_25khz', 'subcarriers', 'symbol_bytes',
-           'profile_bytes', 'numbers_count', 'pattern_phase')
+           'mark', 'symbol_phase', 'point_load', 'why_role', 'lamp_record_bytes')
 HEADER = ROOT / 'include' / 'headend.h'
 GROUNDS = ('PLAN_LENGTH', 'RECORD_KIND', 'NEXT_INDEX', 'RECORD_NUMBERS', 'PILOT_COUNT', 'ACTIVE_OUTSIDE',
            'EXCLUDED_AROUND_PLC', 'PILOT_TAKEN', 'NARROW_BAND', 'NO_WIDE_BAND', 'EXCLUDED_IN_SPAN',
-           'EXCLUDED_IN_BAND', 'WINDOW_OF_6_MHZ', 'WINDOW_OF_1_MHZ', 'RANKS', 'OUT_OF_RANGE', 'BUFFER_LENGTH',
+           'EXCLUDED_IN_BAND', 'WINDOW_OF_120', 'WINDOW_OF_20', 'RANKS', 'OUT_OF_RANGE', 'BUFFER_LENGTH',
            'DATA_COUNT', 'DATA_CELL', 'ARRIVING_CELL', 'BUFFER_BYTES', 'LOAD', 'VALUE', None, 'PROFILE', 'STREAM',
            None, 'LAMP_RECORD')
 NUMBERED = {name: 1 + i for i, name in enumerate(GROUNDS) if name}      # 24 and 27 no call gives
-
-
-class Device(NamedTuple):
-    """Plans of one device, of which the cases are made."""
-    limits: EmitterLimits
-    near: Callable          # Plan A or Plan B with more ranges, pilots, another L or M
-    ends: tuple             # its lowest and highest active subcarriers
-    gap: tuple              # a range that may be excluded too ...
-    wide: tuple             # ... and one that 14 refuses ...
-    wide_at: int            # ... at this place
-    pilot: int              # a subcarrier that may be one
-    free: int               # and the first of many
-    largest: bytes          # the most ranks ...
-    fewer: bytes            # ... and one pilot fewer, which 15 refuses
-    too_many: bytes         # 121 further pilots, which 5 refuses
-
-    @property
-    def plan(self):
-        return self.near()
-
-    @property
-    def size(self):
-        """Cells of a symbol, bytes of a profile, loads and signs."""
-        return self.limits.cells
-
-    @property
-    def last(self):
-        """The last subcarrier."""
-        return self.limits.last_subcarrier
-
-    @property
-    def refused(self):
-        return self.near([self.wide])
-
-    def holed(self, m):
-        """A plan at this depth with a gap and a further pilot."""
-        return self.near([self.gap], [self.pilot], M=m)
-
-
-KHZ50 = Device(EMITTER_50, plans.near_a, (800, 1240), (850, 853), (850, 854), 835, 900, 1060, plans.LARGEST, plans.ONE_PILOT_FEWER,
-               plans.full(pilots=plans.pilots_of_full(121)))
-KHZ25 = Device(EMITTER_25, plans.near_plan_b, (1600, 2481), (1700, 1707), (1700, 1708), 1669, 1800, 2100, plans.LARGEST_25,
-               plans.ONE_PILOT_FEWER_25, plans.full_25(pilots=plans.pilots_of_full_25(121)))
-DEVICES = (KHZ50, KHZ25)
-SIZES = tuple(of.size for of in DEVICES)
-
-
-def other_size(size):
-    """The symbol's cells, or the profile's bytes, of the other device."""
-    return sum(SIZES) - size
 
 
 def number(n):
@@ -410,12 +358,12 @@ def value_of(answer):
 class Link:
     """An emitter and a receiver of one plan and one profile, and the line between."""
 
-    def __init__(self, cases, plan, start, seed, spare=3, profile=None):
-        self.cases, self.plan, self.profile = cases, plan, profile or full(plan)
-        self.rng, self.size = random.Random(seed), width(plan)
+    def __init__(self, cases, plan, start, seed, spare=3, profile=FULL):
+        self.cases, self.plan, self.profile = cases, plan, profile
+        self.rng = random.Random(seed)
         self.at = cases.model.layout(plan)
         self.needs = {end: cases.model.places(self.at, end).length for end in ('emitter', 'receiver')}
-        self.symbol = some_bytes(self.rng, self.size)
+        self.symbol = some_bytes(self.rng, SYMBOL)
         store = some_bytes(self.rng, self.needs['emitter'], spare)
         _, after = self.cases.call('fresh_emitter', start, plan=plan, store=store)
         self.sending, self.sender = after['store'], self.next_state(after['answer'], 1)
@@ -483,10 +431,9 @@ class Link:
 
     def wrong_profiles(self):
         """The same of the profile."""
-        k, load = self.rng.randrange(self.size), self.rng.choice(NOT_LOADS)
-        bad, other = with_load(self.profile, k, load), (2 * self.profile)[:other_size(self.size)]
+        k, load = self.rng.randrange(SYMBOL), self.rng.choice(NOT_LOADS)
+        bad = with_load(self.profile, k, load)
         yield from (({'profile': self.profile[1:]}, 25), ({'profile': self.profile + b'\0'}, 25), ({'profile': b''}, 25),
-                    ({'profile': other}, 25), ({'profile': other, 'symbol': b''}, 25),
                     ({'profile': bad}, 25), ({'profile': bad, 'state': (128, 99)}, 25), ({'profile': bad, 'store': b'\0'}, 21),
                     ({'profile': bad, 'symbol': b''}, 25), ({'profile': bad[1:], 'data': b''}, 25))
 
@@ -508,7 +455,6 @@ class Link:
                     ({'state': (128,)}, 16), ({'state': (phase + 128,)}, 16),
                     ({'state': (TOP,), 'data': b''}, 16), ({'state': ODD_NUMBERS[:1]}, 16),
                     ({'symbol': self.symbol[2:]}, 17), ({'symbol': self.symbol + b'\0\0'}, 17),
-                    ({'symbol': (2 * self.symbol)[:2 * other_size(self.size)]}, 17),
                     ({'data': with_cell(good[2:], 0, 16384)}, 18),
                     ({'data': good[1:]}, 21),
                     ({'symbol': self.symbol[:-1]}, 21), ({'symbol': b'\0'}, 21),
@@ -520,18 +466,18 @@ class Link:
     def wrong_receives(self):
         """The same of a receive step."""
         phase, heard = self.state
-        m, symbol, last = self.at.m, self.symbol, self.size - 1
+        m, symbol = self.at.m, self.symbol
         yield from self.wrong_profiles()
         yield from self.short_stores('receiver', self.listening)
         yield from (({'state': (phase, m)}, 16), ({'state': (phase + 128, heard)}, 16),
                     ({'state': (128, heard)}, 16), ({'state': (TOP, TOP)}, 16),
                     ({'state': ODD_NUMBERS}, 16),
                     ({'symbol': symbol[2:]}, 17), ({'symbol': symbol + b'\x80\x02'}, 17),
-                    ({'symbol': (2 * symbol)[:2 * other_size(self.size)]}, 17), ({'symbol': symbol[:-1]}, 21),
+                    ({'symbol': symbol[:-1]}, 21),
                     ({'data': b'\0'}, 21), ({'data': bytes(9999)}, 21),
                     ({'symbol': b'\0', 'state': (phase, m)}, 21),
-                    ({'symbol': with_cell(symbol, last, 0x8003)}, 20),
-                    ({'symbol': with_cell(with_cell(symbol, last, 0), 0, 0x8001)}, 20))
+                    ({'symbol': with_cell(symbol, 4095, 0x8003)}, 20),
+                    ({'symbol': with_cell(with_cell(symbol, 4095, 0), 0, 0x8001)}, 20))
         if heard == m - 1:
             count = self.cases.model.count(self.at, self.cases.model.input_phase(self.at, phase))
             yield {'data': bytes(2 * count - 2)}, 17
@@ -539,8 +485,8 @@ class Link:
         marks = self.cases.model.marks_at(self.at, phase)
         for mark in set(marks):
             cell = self.rng.choice((16384, 65535, 0x8005, 0x8000 if mark != 0x8000 else 0x8001))
-            turn = self.rng.randrange(self.size)
-            k = (turn + (marks[turn:] + marks[:turn]).index(mark)) % self.size
+            turn = self.rng.randrange(SYMBOL)
+            k = (turn + (marks[turn:] + marks[:turn]).index(mark)) % SYMBOL
             yield {'symbol': with_cell(symbol, k, cell)}, 20
         k = self.rng.choice([k for k, mark in enumerate(marks) if mark is None])
         yield {'symbol': with_cell(symbol, k, self.cases.model.limit(self.profile[k]) + 1)}, 20
@@ -572,41 +518,33 @@ class Link:
 
 # --- the cases -------------------------------------------------------------
 
-def by_device(name, size):
-    """The three names of a size: of each device, and of the larger."""
-    few, many = size(EMITTER_50), size(EMITTER_25)
-    return {name + '_50KHZ': few, name + '_25KHZ': many, name + '_MAX': max(few, many)}
-
-
-def names():
+def names_of(limits):
     """What each name of the header has to be."""
-    x = EMITTER_50                          # for what both devices have
-    marks = {'SCATTERED': x.scattered_mark, 'FILLER': x.filler_mark, 'EXCLUDED': x.excluded_mark,
-             'CONTINUOUS': x.continuous_mark, 'PLC': x.plc_mark, 'DATA_MAX': 2 ** max(LISTED) - 1}
+    marks = {'SCATTERED': limits.scattered_mark, 'FILLER': limits.filler_mark, 'EXCLUDED': limits.excluded_mark,
+             'CONTINUOUS': limits.continuous_mark, 'PLC': limits.plc_mark, 'DATA_MAX': 2 ** max(LISTED) - 1}
     four = ('PLACE', 'PHASE', 'HEARD', 'VALUE')
     largest = {'EMITTER': emitter_length, 'RECEIVER': receiver_length}
-    return {'VERSION': 6, 'ANSWER_BYTES': ANSWER, **{name: 4 * i for i, name in enumerate(four)},
+    return {'VERSION': 5, 'ANSWER_BYTES': ANSWER, **{name: 4 * i for i, name in enumerate(four)},
             **{name.upper(): 1 + i for i, name in enumerate(ROLES)},
             **{'WHY_' + name: 1 + i for i, name in enumerate(WHYS.values())},
             **{'CELL_' + name: mark for name, mark in marks.items()},
-            **by_device('SUBCARRIERS', lambda x: x.last_subcarrier + 1), **by_device('DEPTH', lambda x: x.highest_m),
-            **by_device('SYMBOL_BYTES', lambda x: 2 * x.cells), **by_device('PROFILE_BYTES', lambda x: x.profile),
-            **by_device('NUMBERS', lambda x: 2 * x.cells), **by_device('DATA_BYTES', lambda x: 2 * x.most_ranks),
-            'PHASES': x.phases, 'PLAN_BYTES_MAX': x.longest, 'KIND_25KHZ': 4, 'RECORD_NUMBER_MAX': RECORD_MAX,
+            'SUBCARRIERS': limits.last_subcarrier + 1, 'PHASES': limits.phases, 'DEPTH_MAX': limits.highest_m,
+            'PLAN_BYTES_MAX': limits.longest, 'SYMBOL_BYTES': 2 * limits.cells, 'NUMBERS': 2 * limits.cells,
+            'RECORD_NUMBER_MAX': RECORD_MAX, 'PROFILE_BYTES': limits.profile,
             'PILOTS': lamp.MOST, 'PILOTS_BYTES': lamp.LIST, 'LIGHTS_BYTES': lamp.LIGHTS,
-            'LAMP_RECORD_BYTES_MAX': lamp.MOST + 1, 'LAMP_COUNT_MAX': lamp.MODEL.khz50.cap,
-            **{end + '_STORE_BYTES_MAX': 2 * max(length(of.limits.most_ranks, of.limits.highest_m) for of in DEVICES)
-               for end, length in largest.items()}, 'STACK_BYTES': 262144, 'ACCEPTED': 0,
+            'LAMP_RECORD_BYTES_MAX': lamp.MOST + 1, 'LAMP_COUNT_MAX': lamp.MODEL.limits.cap,
+            **{end + '_STORE_BYTES_MAX': 2 * length(limits.most_ranks, limits.highest_m)
+               for end, length in largest.items()}, 'DATA_BYTES_MAX': 2 * limits.most_ranks, 'STACK_BYTES': 131072, 'ACCEPTED': 0,
             **{'REFUSED_' + name: n for name, n in NUMBERED.items()}}
 
 
 def header_names(cases):
     """Every name that the header defines, and no other."""
     cases.name('the names of the header')
-    wanted = {'HEADEND_' + name: value for name, value in names().items()}
+    names = {'HEADEND_' + name: value for name, value in names_of(cases.model.limits).items()}
     defined = set(re.findall(r'^#define (HEADEND_\w+) +\w', HEADER.read_text(), re.M)) - {'HEADEND_NOT_IGNORED'}
-    assert defined == set(wanted), defined ^ set(wanted)
-    for name, value in wanted.items():
+    assert defined == set(names), defined ^ set(names)
+    for name, value in names.items():
         cases.header_name(name, value)
 
 
@@ -623,7 +561,7 @@ def helpers(cases, phases):
         cases.helper('cell', GIVEN, i, want=cell)
     for i, cell in enumerate((0x1234, 65535, 0, 0x12345678, TOP, 0x80, 0x8000)):
         cases.put_cell(GIVEN, rng.randrange(len(cells)), cell)
-    marks = names()
+    marks = names_of(model.limits)
     for i, role in enumerate(('EXCLUDED', 'PLC', 'CONTINUOUS', 'SCATTERED', 'FILLER')):
         cases.helper('mark', GIVEN, 1 + i, want=marks['CELL_' + role])
     for load in (*range(256), 256, TOP):
@@ -633,35 +571,18 @@ def helpers(cases, phases):
     for pilots in range(8, lamp.MOST + 1):
         cases.helper('lamp_record_bytes', GIVEN, pilots, want=1 + pilots)
     for m in range(1, 33):
-        for n in (282, 425, 32 * m, 100 * m + m // 2, 3744, 3745, *((7536, 7537) if m <= 16 else ())):
+        for n in (282, 425, 32 * m, 100 * m + m // 2, 3744, 3745):
             cases.helper('emitter_store_bytes', SAID, n, m, want=2 * sum(p % m for p in range(n)))
             cases.helper('receiver_store_bytes', SAID, n, m, want=2 * sum(m - 1 - p % m for p in range(n)))
-    for plan in (plans.PLAN_A, (ROOT / loss.NO_SCATTERED).read_bytes(), at_depth(plans.LARGEST, 31), plans.PLAN_B, NONE_AT_0_25):
+    for plan in (plans.PLAN_A, (ROOT / loss.NO_SCATTERED).read_bytes(), at_depth(plans.LARGEST, 31)):
         at = model.layout(plan)
         cases.hold(PLAN, plan)
         cases.helper('lowest_plc', PLAN, want=at.map.l)
         cases.helper('depth', PLAN, want=at.m)
-        for phase in phases[:2] if plan == NONE_AT_0_25 else phases:
+        for phase in phases:
             cases.hold(LINE, to_bytes([7 if mark is None else mark for mark in model.marks_at(at, phase)]))
             some = model.scattered_of(at.map, phase)
             cases.helper('symbol_phase', PLAN, want=phase if some else 128, other=LINE)
-            for k in some[:1] + some[-1:]:
-                cases.helper('pattern_phase', PLAN, k, want=phase)
-    device_helpers(cases)
-
-
-# Of the 25 kHz device, no subcarrier is scattered at phase 0: pilots stand there.
-NONE_AT_0_25 = plans.near_plan_b(pilots=[1704, 1832, 1960, 2088, 2216, 2344, 2472])
-
-
-def device_helpers(cases):
-    """What the header says of a plan by its first byte, whatever follows."""
-    for first in range(256):
-        cases.hold(PLAN, bytes([first]) + plans.PLAN_A[1:] if first % 2 else bytes([first]))
-        is_25 = first == 4
-        for name, want in (('is_25khz', int(is_25)), ('subcarriers', SIZES[is_25]), ('symbol_bytes', 2 * SIZES[is_25]),
-                           ('profile_bytes', SIZES[is_25]), ('numbers_count', 2 * SIZES[is_25])):
-            cases.helper(name, PLAN, want=want)
 
 
 def verdicts(cases, some):
@@ -674,20 +595,19 @@ def verdicts(cases, some):
         cases.call('judge', plan=plan)
 
 
-def roles(cases, given_plans, step):
-    """The roles at a phase under each of these plans, of the subcarriers in steps of `step`; and 16 at the limits of the device."""
-    for plan, phase in given_plans:
+def roles(cases, subcarriers):
+    a, largest, singles = plans.PLAN_A, plans.LARGEST, plans.SINGLES_150
+    for plan, phase in ((a, 0), (a, 14), (a, 125), (a, 127), (largest, 77), (singles, 127)):
         cases.name('roles at phase %d' % phase)
-        size = width(plan)
-        for k in range(0, size, step):
+        for k in subcarriers:
             cases.call('role', k, phase, plan=plan)
-        for k, j in ((size, 0), (TOP, 0), (0, 128), (size - 1, TOP), (size, 128)):
+        for k, j in ((4096, 0), (TOP, 0), (0, 128), (4095, TOP), (4096, 128)):
             assert cases.call('role', k, j, plan=plan)[0] == 16
-        assert cases.call('role', size - 1, 127, plan=plan)[0] == 0
 
 
-def counts(cases, given_plans, phases):
-    for plan in given_plans:
+def counts(cases, phases):
+    for plan in (plans.PLAN_A, plans.near_a(M=3), plans.near_b(), at_depth(plans.LARGEST, 31),
+                 plans.SINGLES_150):
         cases.name('N_D')
         for phase in phases:
             cases.call('data_count', phase, plan=plan)
@@ -700,38 +620,33 @@ def of_plans():
     return [(name, call) for name, call in CALLS.items() if 'plan' in call[1].split()]
 
 
-def refused_plans(cases, of, ending, step):
-    """Every call of a plan refused by each of 1 to 15, and by 21 before.  The plans are those of plans/ with this ending, one in `step`."""
+def refused_plans(cases):
+    """Every call of a plan refused by each of 1 to 15, and by 21 before."""
     rng = random.Random(3)
-    found = [re.fullmatch(r'refused-(\d\d)%s\.plan' % ending, path.name) for path in sorted((ROOT / 'plans').iterdir())]
-    for name in list(filter(None, found))[::step]:
-        refused_calls(cases, of, rng, (ROOT / 'plans' / name[0]).read_bytes(), int(name[1]))
+    for ground in range(1, 16):
+        plan = (ROOT / 'plans' / ('refused-%02d.plan' % ground)).read_bytes()
+        for name, (takes, buffers, *_) in of_plans():
+            cases.name('%s refused by %d' % (name, ground))
+            # Good buffers of Plan A, then short ones and numbers out of range.
+            takes += name in STARTED
+            for cells, n in (({'store': 639, 'data': 421, 'symbol': SYMBOL, 'stream': 400}, 3), ({}, TOP)):
+                given = {key: some_bytes(rng, cells.get(key, LEAST.get(key, 4) // 2)) for key in buffers.split()[1:-1]}
+                if cells and 'profile' in given:
+                    given['profile'] = FULL
+                want = 4 if name == 'try' and n == TOP and ground > 5 else ground       # the new record's
+                assert cases.call(name, *[n] * takes, plan=plan, **given)[0] == want
+            for odd in given:
+                bad = {**given, odd: given[odd] + b'\0'}
+                assert cases.call(name, *[5] * takes, plan=plan, **bad)[0] == (21 if odd in OF_CELLS else ground)
+            for room in (0, 1, ANSWER - 1):
+                given['answer'] = b'\x5A' * room
+                assert cases.call(name, *[5] * takes, plan=plan, **given)[0] == 21
 
 
-def refused_calls(cases, of, rng, plan, ground):
-    """Every call of a plan that this ground refuses."""
-    for name, (takes, buffers, *_) in of_plans():
-        cases.name('%s refused by %d' % (name, ground))
-        # Buffers with room for Plan A or B, then short ones and numbers out of range.
-        takes += name in STARTED
-        for cells, n in (({'store': 1300, 'data': 421, 'symbol': of.size, 'stream': 400}, 3), ({}, TOP)):
-            given = {key: some_bytes(rng, cells.get(key, LEAST.get(key, 4) // 2)) for key in buffers.split()[1:-1]}
-            if cells and 'profile' in given:
-                given['profile'] = full(of.plan)
-            want = 4 if name == 'try' and n == TOP and ground > 5 else ground       # the new record's
-            assert cases.call(name, *[n] * takes, plan=plan, **given)[0] == want
-        for odd in given:
-            bad = {**given, odd: given[odd] + b'\0'}
-            assert cases.call(name, *[5] * takes, plan=plan, **bad)[0] == (21 if odd in OF_CELLS else ground)
-        for room in (0, 1, ANSWER - 1):
-            given['answer'] = b'\x5A' * room
-            assert cases.call(name, *[5] * takes, plan=plan, **given)[0] == 21
-
-
-def lent_rooms(cases, of):
+def lent_rooms(cases):
     """Longer stores and answers than needed, and fresh starts at the limits of 16, 17 and 21."""
     rng = random.Random(4)
-    for plan in (of.plan, of.near(M=1), of.holed(of.limits.highest_m - 1)):
+    for plan in (plans.PLAN_A, plans.near_a(M=1), plans.near_a([(850, 853)], [900], M=31)):
         cases.name('fresh starts')
         at = cases.model.layout(plan)
         for end in ('emitter', 'receiver'):
@@ -750,17 +665,16 @@ def lent_rooms(cases, of):
                 assert cases.call(name, 5, plan=plan, store=store, answer=bytes(room))[0] == 21
 
 
-def store_lengths(cases, of, depths):
+def store_lengths(cases, depths):
     """Every call that is lent a store, at both sides of the least length of its end, of plans with N_I a
     multiple of M and not."""
     rng = random.Random(10)
     for m in depths:
-        rest = cases.model.layout(of.plan).n % m
-        for plan in (of.near(M=m), of.near(pilots=range(of.free, of.free + rest), M=m)):
+        for plan in (plans.near_a(M=m), plans.near_a(pilots=range(1060, 1060 + 425 % m), M=m)):
             at, phase = cases.model.layout(plan), rng.randrange(128)
             cases.name('stores at depth %d with N_I %d' % (m, at.n))
-            line = to_bytes([5 if mark is None else mark for mark in cases.model.marks_at(at, phase)])
-            good = {'plan': plan, 'profile': full(plan), 'symbol': line}
+            full = {'plan': plan, 'profile': FULL, 'symbol': to_bytes([5 if mark is None else mark
+                                                      for mark in cases.model.marks_at(at, phase)])}
             lengths = {end: cases.model.places(at, end).length for end in ('emitter', 'receiver')}
             for name, (takes, buffers, *_) in CALLS.items():
                 if 'store' not in buffers:
@@ -769,63 +683,61 @@ def store_lengths(cases, of, depths):
                 sizes = {need, need + 1, need - 1, *lengths.values()} - {-1}
                 data = some_data(rng, cases.model.count(at, phase)) if name == 'emit' else some_bytes(rng, at.n)
                 for size in sorted(sizes):
-                    given = {**good, 'data': data, 'store': some_bytes(rng, size), 'answer': bytes(ANSWER)}
+                    given = {**full, 'data': data, 'store': some_bytes(rng, size), 'answer': bytes(ANSWER)}
                     returned, _ = cases.call(name, *(phase, m - 1)[:takes],
                                              **{key: given[key] for key in buffers.split()})
                     assert returned == (17 if size < need else 0), (name, size, need, returned)
 
 
-def any_states(cases, given_plans):
+def any_states(cases, depths):
     """Single steps from any state, in stores of any content."""
     rng = random.Random(5)
-    for plan in given_plans:
-        at, size = cases.model.layout(plan), width(plan)
-        cases.name('any state at depth %d' % at.m)
-        for phase in (0, 127, rng.randrange(128)):
-            heard, profile = rng.choice((0, at.m - 1)), some_profile(rng, size=size)
-            line = to_bytes([rng.choice((0x8001, rng.randrange(cases.model.limit(load) + 1))) if mark is None else mark
-                             for mark, load in zip(cases.model.marks_at(at, phase), profile)])
-            store = some_bytes(rng, receiver_length(at.n, at.m), 7)     # the longer of the two
-            room = some_bytes(rng, size)
-            data = fitting_data(rng, cases.model, cases.model.data_loads(at, profile, phase))
-            assert cases.call('emit', phase, plan=plan, profile=profile, store=store, data=data, symbol=room)[0] == 0
-            assert cases.call('flush', phase, plan=plan, store=store, symbol=room)[0] == 0
-            assert cases.call('receive', phase, heard, plan=plan, profile=profile, store=store, symbol=line,
-                              data=some_bytes(rng, at.n))[0] == 0
-
-
-def runs(cases, of, depths, large, all_wrong, late, long):
-    """Links at these depths: of neighbours of Plan A or B, also round the wrap of the phases; of large plans; with every refused step,
-    and with a receiver that comes late; and a long one at depth 3.  Some with 14 everywhere, others with mixed loads."""
-    mixed = random.Random(21)
-
-    def some_loads(*loads):
-        return some_profile(mixed, *loads, size=of.size)
-
     for m in depths:
-        for start, profile in ((127 - m // 2, None), (37 * m % 128, some_loads())):
+        for plan in (plans.near_a([(850, 853)], [900], M=m), at_depth(plans.SINGLES_150, m)):
+            cases.name('any state at depth %d' % m)
+            at = cases.model.layout(plan)
+            for phase in (0, 127, rng.randrange(128)):
+                heard, profile = rng.choice((0, m - 1)), some_profile(rng)
+                line = to_bytes([rng.choice((0x8001, rng.randrange(cases.model.limit(load) + 1))) if mark is None else mark
+                                 for mark, load in zip(cases.model.marks_at(at, phase), profile)])
+                store = some_bytes(rng, receiver_length(at.n, m), 7)    # the longer of the two
+                room = some_bytes(rng, SYMBOL)
+                data = fitting_data(rng, cases.model, cases.model.data_loads(at, profile, phase))
+                assert cases.call('emit', phase, plan=plan, profile=profile, store=store, data=data, symbol=room)[0] == 0
+                assert cases.call('flush', phase, plan=plan, store=store, symbol=room)[0] == 0
+                assert cases.call('receive', phase, heard, plan=plan, profile=profile, store=store, symbol=line,
+                                  data=some_bytes(rng, at.n))[0] == 0
+
+
+def runs(cases, depths, large, all_wrong, long):
+    """Links at these depths: of Plan A's neighbours, also round the wrap of the phases; of large plans;
+    with every refused step, and with a receiver that comes late; and a long one at depth 3.  Some with 14
+    everywhere, others with mixed loads."""
+    mixed = random.Random(21)
+    for m in depths:
+        for start, profile in ((127 - m // 2, FULL), (37 * m % 128, some_profile(mixed))):
             cases.name('a link of depth %d from phase %d' % (m, start))
-            Link(cases, of.near(M=m), start, m, profile=profile).run(2 * m + 3 if start > 100 else m + 2)
+            Link(cases, plans.near_a(M=m), start, m, profile=profile).run(2 * m + 3 if start > 100 else m + 2)
     for m in large:
         cases.name('a large link of depth %d' % m)
-        Link(cases, at_depth(of.largest, m), 127 - m // 2, m, 0, None if m % 2 else some_loads()).run(m + 4, 1)
+        Link(cases, at_depth(plans.LARGEST, m), 127 - m // 2, m, 0, FULL if m % 2 else some_profile(mixed)).run(m + 4, 1)
     for m in all_wrong:
         cases.name('every refused step at depth %d' % m)
-        Link(cases, of.holed(m), 126, m, profile=some_loads()).run(m + 3, None)
-    for m in late:
+        Link(cases, plans.near_a([(850, 853)], [900], M=m), 126, m, profile=some_profile(mixed)).run(m + 3, None)
+    for m in all_wrong:
         cases.name('a receiver that comes late, at depth %d' % m)
-        link = Link(cases, of.near(M=m), 120, m)
+        link = Link(cases, plans.near_a(M=m), 120, m)
         for t in range(m + 2):
             link.send(t % 4 == 3)
         link.listen(1)
         link.run(m + 3, 0)
     cases.name('a long link')
-    Link(cases, of.near(M=3), 5, 9, profile=some_loads((0, 4, 14))).run(long, 0)
+    Link(cases, plans.near_a(M=3), 5, 9, profile=some_profile(mixed, (0, 4, 14))).run(long, 0)
 
 
-def empty_buffers(cases, of):
+def empty_buffers(cases):
     """Each call of a plan with each of its buffers empty, and with all of them: tests/host.c passes NULL for it."""
-    plan, rng = of.near(M=2), random.Random(9)
+    plan, rng = plans.near_a(M=2), random.Random(9)
     link = Link(cases, plan, 60, 3)
     link.send()
     cases.name('empty buffers')
@@ -834,20 +746,20 @@ def empty_buffers(cases, of):
     for name, (takes, buffers, *_) in of_plans():
         data = some_bytes(rng, link.at.n) if name == 'receive' else some_data(rng, cases.model.count(link.at, 60))
         hears = name in ('receive', 'fresh_receiver')
-        good = {'plan': plan, 'profile': full(plan), 'store': link.listening if hears else link.sending, 'data': data,
-                'symbol': link.symbol, 'stream': rng.randbytes(2 * link.at.n), 'pilots': bytes(256), 'record': bytes(9),
-                'lights': bytes(128), 'answer': bytes(ANSWER)}
-        good = {key: good[key] for key in buffers.split()}
+        full = {'plan': plan, 'profile': FULL, 'store': link.listening if hears else link.sending, 'data': data,
+                'symbol': link.symbol, 'stream': rng.randbytes(800), 'pilots': bytes(256), 'record': bytes(9), 'lights': bytes(128),
+                'answer': bytes(ANSWER)}
+        full = {key: full[key] for key in buffers.split()}
         numbers = (60, 60) if name == 'try' else (60, 0)[:takes + (name in STARTED)]
-        assert cases.call(name, *numbers, **good)[0] == 0
-        for key in good:
+        assert cases.call(name, *numbers, **full)[0] == 0
+        for key in full:
             want = 0 if (name, key) == ('receive', 'data') else refused[key]     # warming, any data buffer will do
-            assert cases.call(name, *numbers, **{**good, key: b''})[0] == want
-        assert cases.call(name, *numbers, **dict.fromkeys(good, b''))[0] == 21
-        want = 21 if good.keys() & LEAST.keys() else 1
-        assert cases.call(name, *numbers, **{**dict.fromkeys(good, b''), 'answer': bytes(ANSWER)})[0] == want
+            assert cases.call(name, *numbers, **{**full, key: b''})[0] == want
+        assert cases.call(name, *numbers, **dict.fromkeys(full, b''))[0] == 21
+        want = 21 if full.keys() & LEAST.keys() else 1
+        assert cases.call(name, *numbers, **{**dict.fromkeys(full, b''), 'answer': bytes(ANSWER)})[0] == want
         if name == 'receive':
-            assert cases.call('receive', 61, 1, **{**good, 'data': b''})[0] == 17     # not warming
+            assert cases.call('receive', 61, 1, **{**full, 'data': b''})[0] == 17     # not warming
 
 
 def losses(cases):
@@ -866,29 +778,23 @@ def losses(cases):
         wrong += count > 0 and after['data'][:2 * count] != link.sent[link.t - link.at.m + 1][:2 * count]
         link.listening, link.state, link.t = after['store'], link.next_state(after['answer'], 2), link.t + 1
     assert (returned, wrong, link.state[0]) == (20, 9, 75), (returned, wrong, link.state)
-    wrong_symbol(cases, link, (0, 800, 925, 972))
-    wrong_symbol(cases, Link(cases, plans.PLAN_B, 127, 13), (0, 1600, 1850, 1944))
-
-
-def wrong_symbol(cases, link, subcarriers):
-    """A receiver that starts afresh, then gets a symbol with wrong cells: excluded, data, continuous and PLC."""
     cases.name('a receiver that starts afresh')
     link.listen(0)
     link.run(6, 0)
     cases.name('a wrong symbol left alone, then mended')
     link.send()
     good, wrong = link.symbol, link.symbol
-    for k in subcarriers:
+    for k in (972, 0, 800, 925):                    # PLC, excluded, data, continuous
         wrong = with_cell(wrong, k, 65535)
     link.send()
     for symbol in (wrong, link.symbol):             # the next one is refused too
         assert link.receive(symbol=symbol)[0] == 20
-    for want in subcarriers:
+    for want in (0, 800, 925, 972):
         returned, after = link.receive(symbol=wrong)
         assert (returned, int.from_bytes(after['answer'][:4], 'big')) == (20, want)
         mark = cases.model.marks_at(link.at, link.state[0])[want]
         wrong = with_cell(wrong, want, 0x8001 if mark is None else mark)
-    assert wrong == with_cell(good, subcarriers[1], 0x8001)
+    assert wrong == with_cell(good, 800, 0x8001)
     for symbol in (wrong, link.symbol):
         returned, after = link.receive(symbol=symbol)
         assert returned == 0
@@ -898,12 +804,8 @@ def wrong_symbol(cases, link, subcarriers):
 # --- one more range --------------------------------------------------------
 
 RANGES = ((850, 853), (850, 854), (0, 147), (3949, 4095), (2500, 2500), (1239, 1240), (1182, 1201), (0, 4095), (7, 6), (4095, 4096))
-
-
-def bad_ranges(of):
-    """Refused by 4: the numbers from 65536 on, cut to two bytes, would be good."""
-    first, last = of.gap
-    return ((7, 6), (of.size, of.size), (65536 + first, 65536 + last), (first, 65536 + last), (65536 + first, last), (0, TOP), (TOP, TOP))
+# Refused by 4: the numbers from 65536 on, cut to two bytes, would be good.
+BAD = ((7, 6), (4096, 4096), (65536 + 850, 65536 + 853), (850, 65536 + 853), (65536 + 850, 853), (0, TOP), (TOP, TOP))
 
 
 def attempt(cases, plan, first, last, want=None, **other):
@@ -918,7 +820,7 @@ def without_last(model, plan):
     """A plan and a range such that a trial of it has this plan as the copy; None where the chain does not end at a last
     record of kind 2."""
     index = len(plan) // 8 - 1
-    if model.length_is_bad(model.device(plan), len(plan)) or plan[-8:-4] != bytes((2, 0, 0, 0)):
+    if model.length_is_bad(len(plan)) or plan[-8:-4] != bytes((2, 0, 0, 0)):
         return None
     for i in (i for i in range(index) if model.read(plan, i).next == index):
         shorter = plans.next_index(plan[:-8], i, 0)
@@ -936,7 +838,7 @@ def trials(cases, ranges, step, some):
         cases.name('ranges tried on ' + path.name)
         for first, last in ranges:
             attempt(cases, path.read_bytes(), first, last)
-    for name, plan, want in (plans.all_cases() + plans.all_cases_25())[::step]:
+    for name, plan, want in plans.all_cases()[::step]:
         cases.name('tried on ' + name)
         attempt(cases, plan, *compare.some_range(rng, plan))
         shorter = without_last(cases.model, plan)
@@ -976,25 +878,6 @@ def limits():
             (plans.full(pilots=plans.pilots_of_full(120)), 3000, 3000, (0, 3664)))
 
 
-def limits_25():
-    """The same of Plan B, and of the limits of the 25 kHz device."""
-    b, w, twelve = plans.PLAN_B, plans.wide_25, plans.singles(*range(2010, 2231, 20))
-    pilots, crowded = plans.near_plan_b(pilots=[1800, 1720]), plans.two_bands_25(2600, 2679, plans.singles(2610, 2630, 2650, 2670))
-    two, eight = plans.two_bands_25, [(2200, 2207)]
-    return ((b, 2480, 2481, (0, 856)), (b, 2479, 2481, (10, 0)), (b, 1700, 1707, (0, 850)), (b, 1700, 1708, (14, 1669)),
-            (b, 2363, 2402, (9, 2403)), (b, 2362, 2401, (10, 0)), (b, 1679, 1718, (9, 1600)), (b, 1680, 1719, (10, 0)),
-            (plans.ONE_PILOT_FEWER_25, 2000, 2000, (0, 7537)), (plans.LARGEST_25, 2000, 2000, (0, 7536)),
-            (b, 0, 1599, (0, 858)), (b, 1599, 1600, (0, 857)), (b, 8191, 8191, (0, 858)), (b, 4096, 4096, (0, 858)),
-            (b, 8191, 8192, (4, 3)), (b, 8192, 8191, (4, 3)), (b, 1601, 1600, (4, 3)), (b, 4095, 4096, (0, 858)),
-            (b, 1831, 1831, (0, 857)), (b, 1832, 1832, (7, 1832)), (b, 2071, 2071, (7, 2071)), (b, 2072, 2072, (0, 857)),
-            (b, 0, 8191, (7, 1832)), (pilots, 1799, 1799, (0, 855)), (pilots, 1800, 1800, (8, 3)), (pilots, 1720, 1720, (8, 4)),
-            (w([(2200, 2239)]), 2319, 2358, (9, 2240)), (w([(2200, 2239)]), 2320, 2359, (0, 1897)), (w(), 2200, 2239, (0, 1937)),
-            (w(), 2200, 2238, (13, 2000)), (two(2724, 2809), 2200, 2200, (11, 0)), (two(2724, 2814), 2200, 2200, (0, 948)),
-            (crowded, 2620, 2620, (12, 2600)), (w(twelve), 2248, 2248, (13, 2009)), (w(twelve), 2249, 2249, (13, 2010)),
-            (w(twelve), 2250, 2250, (0, 1964)), (w(eight), 2238, 2238, (14, 2199)), (w(eight), 2239, 2239, (14, 2200)),
-            (w(eight), 2240, 2240, (0, 1968)))
-
-
 def mended():
     """(a refused plan, its ground, first, last, what comes of it): what the range mends, and what it does not."""
     low, high = plans.plan(204, 4, plans.outside(147, 588)), plans.plan(3885, 4, plans.outside(3508, 3949))
@@ -1014,19 +897,12 @@ def mended():
             (b([(1100, 1118)]), 13, 1119, 1119, (0, 965)), (b([(1100, 1118)]), 13, 1099, 1099, (0, 965)),
             (b([(1100, 1118)]), 13, 1118, 1118, (13, 1000)), (b([(1100, 1104)]), 14, 1105, 1119, (0, 965)),
             (b([(1100, 1104)]), 14, 1106, 1119, (13, 1000)),
-            (full(), 15, 148, 187, (0, 3745)), (full(), 15, 148, 186, (15, 0)), (full(), 15, 1000, 1039, (0, 3745)),
-            # of the 25 kHz device
-            (plans.plan_25(408, 4, plans.outside_25(295, 1177)), 6, 295, 295, (0, 858)),
-            (plans.plan_25(408, 4, plans.outside_25(295, 1177)), 6, 294, 294, (6, 295)),
-            (plans.next_index(plans.PLAN_B, 1, 0), 6, 2482, 8191, (0, 858)),
-            (plans.next_index(plans.PLAN_B, 1, 0), 6, 2482, 4095, (6, 7897)),
-            (plans.two_bands_25(2600, 2678), 9, 2600, 2678, (0, 858)), (plans.wide_25([(2200, 2238)]), 13, 2239, 2239, (0, 1937)),
-            (plans.full_25(), 15, 296, 335, (0, 7537)), (plans.full_25(), 15, 296, 334, (15, 0)))
+            (full(), 15, 148, 187, (0, 3745)), (full(), 15, 148, 186, (15, 0)), (full(), 15, 1000, 1039, (0, 3745)))
 
 
 def tried_limits(cases):
     cases.name('neighbours of Plan A, and limits that a range can break')
-    for trial in (*limits(), *limits_25()):
+    for trial in limits():
         attempt(cases, *trial)
     cases.name('what a range mends')
     for plan, ground, first, last, want in mended():
@@ -1034,70 +910,60 @@ def tried_limits(cases):
         attempt(cases, plan, first, last, want)
 
 
-def tried_chains(cases, of):
+def tried_chains(cases):
     """Full plans, and plans with room for one record; records off the chain behind its end, some of which point at the new one."""
-    items = plans.entries(*head_of(of), head=of.plan[0])
-    low, high = of.ends
-    accepted, bad = (0, cases.model.layout(of.near([of.gap])).n), bad_ranges(of)
-    many = plans.chained([*items[:1], *[(2, n, low - 1) for n in range(510)], (2, high + 1, of.last)])
-    full_14 = plans.chained([*items[:1], *[(2, n, low - 1) for n in range(509)], (2, high + 1, of.last), (2, *of.wide)])
+    items = plans.entries(972, 4, plans.outside(800, 1240))
+    many = plans.plan(972, 4, [(n, 799) for n in range(510)] + [(1241, 4095)])
+    full_14 = plans.plan(972, 4, [(n, 799) for n in range(509)] + [(1241, 4095), (850, 854)])
     cases.name('full plans')
-    for plan in (many, full_14, of.plan + bytes(4072), of.plan + b'\xA5' * 4072):
-        for first, last in (of.gap, of.wide, *bad):
+    for plan in (many, full_14, plans.PLAN_A + bytes(4072), plans.PLAN_A + b'\xA5' * 4072):
+        for first, last in ((850, 853), (850, 854), *BAD):
             attempt(cases, plan, first, last, (1, 0))
-    for plan, want in ((plans.next_index(many, 511, 512), (3, 511)), (plans.kind(many, 511, 4), (2, 511)),
-                       (plans.kind(many, 511, 1), (2, 511))):
-        for first, last in (of.gap, of.wide, *bad):
+    for plan, want in ((plans.next_index(many, 511, 512), (3, 511)), (plans.kind(many, 511, 4), (2, 511))):
+        for first, last in ((850, 853), (850, 854), *BAD):
             attempt(cases, plan, first, last, want)
     cases.name('records off the chain')
-    l, pilot, gap = items[0][1], of.pilot, (of.gap[0] + 10, of.gap[1] + 10)
-    fillers = (bytes(8), plans.RUBBISH, plans.record(1, 0, l, 4), plans.record(4, 0, l, 4), plans.record(2, 0, *gap),
-               plans.record(2, 6, *gap), plans.record(2, 0, l, l), plans.record(3, 0, pilot, 0), plans.record(3, 6, pilot, 0))
+    fillers = (bytes(8), plans.RUBBISH, plans.record(1, 0, 972, 4), plans.record(2, 0, 860, 863), plans.record(2, 6, 860, 863),
+               plans.record(2, 0, 972, 972), plans.record(3, 0, 900, 0), plans.record(3, 6, 900, 0))
     chains = [plans.spread(items, [0, 2, 4], 6, filler) for filler in fillers]
     chains += [plans.spread(items, [0, 3, 7], 9), plans.spread(items, [0, 1, 256], 300), plans.spread(items, [0, 1, 2], 257)]
-    chains += [plans.OVERLAPPING_510] if of is KHZ50 else []
-    for plan in (*chains, of.plan + bytes(4064)):
-        attempt(cases, plan, *of.gap, accepted)
-        attempt(cases, plan, *of.wide, (14, of.wide_at))
-        for first, last in bad:
+    for plan in (*chains, plans.OVERLAPPING_510, plans.PLAN_A + bytes(4064)):
+        attempt(cases, plan, 850, 853, (0, 421))
+        attempt(cases, plan, 850, 854, (14, 835))
+        for first, last in BAD:
             attempt(cases, plan, first, last, (4, len(plan) // 8))
-    short = plans.spread(items[:2], [0, 1], 3, plans.record(2, 0, high + 1, of.last))
-    attempt(cases, short, high + 1, of.last, (0, cases.model.layout(of.plan).n))
-    attempt(cases, short, *of.gap, (6, of.limits.highest_active + 1))
+    short = plans.spread(items[:2], [0, 1], 3, plans.record(2, 0, 1241, 4095))
+    attempt(cases, short, 1241, 4095, (0, 425))
+    attempt(cases, short, 850, 853, (6, 3949))
 
 
-def head_of(of):
-    """L, M and the ranges of Plan A or Plan B."""
-    low, high = of.ends
-    return *to_cells(of.plan[4:8]), plans.outside(low, high, of.last)
-
-
-def tried_numbers(cases, of):
+def tried_numbers(cases):
     """Every pair of ends below and above what a subcarrier and a record can be; plans refused by 1 to 5, which is tried before the
     range; and answers of all lengths."""
-    (first, last), x, a, bad = of.gap, of.limits, of.plan, bad_ranges(of)
-    ends = (0, first, last, of.last, of.size, RECORD_MAX, 65536, 65536 + first, 65536 + last, 2 ** 31 + first, TOP)
+    ends = (0, 850, 853, 4095, 4096, RECORD_MAX, 65536, 65536 + 850, 65536 + 853, 2 ** 31 + 850, TOP)
+    a = plans.PLAN_A
     cases.name('the numbers of a range')
-    for low in ends:
-        for high in ends:
-            attempt(cases, a, low, high, None if low <= high <= of.last else (4, 3))
+    for first in ends:
+        for last in ends:
+            attempt(cases, a, first, last, None if first <= last <= 4095 else (4, 3))
     cases.name('ranges tried on plans refused by 1 to 5')
     broken = [a[:0], a[:7], a[:8], a[:12], a + b'\0', a + bytes(4071), a + bytes(4073), a + bytes(4080),
               plans.kind(a, 0, 2), plans.kind(a, 1, 1), plans.kind(a, 2, 4), plans.byte1(a, 2, 1), plans.next_index(a, 2, 3),
-              plans.next_index(a, 2, 2), plans.next_index(a, 1, 1), plans.next_index(a, 0, 3), plans.second(a, 2, of.size),
-              plans.first(a, 1, of.ends[0]), plans.first(a, 0, x.lowest_l - 1), plans.second(a, 0, x.highest_m + 1), of.too_many]
+              plans.next_index(a, 2, 2), plans.next_index(a, 1, 1), plans.next_index(a, 0, 3), plans.second(a, 2, 4096),
+              plans.first(a, 1, 800), plans.first(a, 0, 203), plans.second(a, 0, 33),
+              plans.full(pilots=plans.pilots_of_full(121))]
     for plan in broken:
         own = cases.model.judge(plan)[1:]
         assert own[0] <= 5
-        for low, high in (of.gap, of.wide, *bad):
-            attempt(cases, plan, low, high, own)
+        for first, last in ((850, 853), (850, 854), *BAD):
+            attempt(cases, plan, first, last, own)
     cases.name('answers of a trial')
-    for plan in (a, a[:0], broken[-1], of.refused, a + bytes(4072)):
-        for low, high in (of.gap, (7, 6), (TOP, 0)):
+    for plan in (a, a[:0], broken[-1], plans.near_a([(850, 854)]), a + bytes(4072)):
+        for first, last in ((850, 853), (7, 6), (TOP, 0)):
             for room in (0, 1, ANSWER - 1):
-                assert cases.call('try', low, high, plan=plan, answer=b'\x5A' * room)[0] == 21
+                assert cases.call('try', first, last, plan=plan, answer=b'\x5A' * room)[0] == 21
             for room in (ANSWER, ANSWER + 1, 999):
-                attempt(cases, plan, low, high, answer=b'\x5A' * room)
+                attempt(cases, plan, first, last, answer=b'\x5A' * room)
 
 
 # --- the reason of a role --------------------------------------------------
@@ -1110,11 +976,6 @@ OFF_CHAIN = {1: plans.record(2, 2, 0, 799), 4: plans.record(3, 5, 860, 0), 7: pl
 MIXED = plans.spread(list(ON_CHAIN.values()), list(ON_CHAIN), 15, [OFF_CHAIN.get(i) for i in range(15)])
 # A pilot's record at the last place that there is.
 LAST_PLACE = plans.spread(plans.entries(972, 4, plans.outside(800, 1240), [900]), [0, 256, 257, 511], 512)
-# The same of the 25 kHz device, near Plan B.
-MIXED_25 = plans.spread([(4, 1944, 4), (2, 0, 1400), (3, 1800, 0), (2, 1200, 1599), (2, 2482, 8191), (2, 1700, 1704), (2, 1702, 1706),
-                         (3, 1720, 0), (2, 6000, 6200)], [0, 2, 3, 5, 6, 8, 9, 11, 12], 14,
-                        [None, plans.record(2, 2, 0, 1599), None, None, plans.record(3, 5, 1720, 0), None, None,
-                         plans.record(2, 8, 1700, 1706), None, None, plans.record(4, 0, 1944, 4), None, None, plans.record(2, 0, 0, 8191)])
 
 
 def known():
@@ -1153,34 +1014,6 @@ def known():
             (singles, 127, 1, 78, (2070,)), (singles, 127, 1, 152, (3846,)))
 
 
-def known_25():
-    """The same of the 25 kHz device.  The first subcarrier above the PLC of Plan B is 1960: the pattern meets 1960 + x at phase x / 2
-    where x is even, and at 64 + (x - 1) / 2 where it is odd."""
-    b, largest = plans.PLAN_B, plans.LARGEST_25
-    low, high = plans.plan_25(408, 4, plans.outside_25(296, 1177)), plans.plan_25(7769, 4, plans.outside_25(7015, 7896))
-    return ((b, 0, 1, 1, (0, 1, 296, 1599)), (b, 127, 1, 2, (2482, 4095, 4096, 7897, 8191)), (b, 125, 2, 0, range(1944, 1960)),
-            # the eight predefined pilots, each at the phase at which the pattern meets it
-            (b, 9, 3, 94, (1850,)), (b, 21, 3, 70, (1874,)), (b, 32, 3, 48, (1896,)), (b, 41, 3, 30, (1914,)),
-            (b, 78, 4, 30, (1989,)), (b, 87, 4, 48, (2007,)), (b, 98, 4, 70, (2029,)), (b, 110, 4, 94, (2053,)),
-            (b, 0, 6, 0, (1704, 1832, 1960, 2088, 2216, 2344, 2472)), (b, 64, 6, 64, (1705, 1833, 1961, 2089, 2217, 2345, 2473)),
-            (b, 63, 6, 63, (1702, 1830, 2086, 2214, 2342, 2470)), (b, 127, 6, 127, (1703, 1831, 2087, 2215, 2343, 2471)),
-            (b, 1, 7, 0, (1704, 1960, 2472)), (b, 64, 7, 0, (1704, 1960)), (b, 0, 7, 64, (1705, 1961)), (b, 127, 7, 63, (1702, 2470)),
-            (b, 63, 7, 127, (1703, 2471)), (b, 2, 7, 1, (1962, 2090)), (b, 1, 7, 65, (1963, 2091)), (b, 0, 7, 12, (1600,)),
-            (b, 0, 7, 68, (2481,)), (b, 0, 7, 119, (1943,)), (b, 45, 7, 46, (2052,)), (b, 46, 6, 46, (2052,)),
-            # the lowest L and the highest
-            (low, 5, 1, 1, (0, 295)), (low, 5, 1, 2, (1178, 8191)), (low, 5, 2, 0, (408, 423)), (low, 5, 3, 94, (314,)),
-            (low, 5, 3, 30, (378,)), (low, 5, 4, 30, (453,)), (low, 5, 4, 94, (517,)), (low, 0, 6, 0, (296,)), (low, 63, 7, 64, (297,)),
-            (high, 9, 1, 1, (7014,)), (high, 9, 1, 2, (7897,)), (high, 9, 2, 0, (7769, 7784)), (high, 9, 3, 94, (7675,)),
-            (high, 9, 3, 30, (7739,)), (high, 9, 4, 30, (7814,)), (high, 9, 4, 94, (7878,)), (high, 119, 6, 119, (7896,)),
-            (high, 55, 7, 119, (7896,)),
-            # the first record on the chain, never one off it
-            (MIXED_25, 64, 1, 2, (0, 1199, 1200, 1400)), (MIXED_25, 64, 1, 5, (1401, 1599)), (MIXED_25, 64, 1, 6, (2482, 6000, 8191)),
-            (MIXED_25, 64, 1, 8, (1700, 1702, 1704)), (MIXED_25, 64, 1, 9, (1705, 1706)), (MIXED_25, 48, 5, 3, (1800,)),
-            (MIXED_25, 8, 5, 11, (1720,)),
-            # 40 pilots
-            (largest, 77, 5, 3, (400,)), (largest, 77, 5, 42, (1180,)), (largest, 77, 1, 1, (295,)), (largest, 77, 1, 2, (7897,)))
-
-
 def reason(cases, plan, k, phase, want=None):
     """A call of why, and what it has to give where that is said: the value, and the record, the distance or the phase.  The
     role of the value is the one that the call of role gives.  Answers the value."""
@@ -1196,10 +1029,10 @@ def reason(cases, plan, k, phase, want=None):
 
 def ends_of(model, plan):
     """The subcarriers at which a reason of this plan may begin or end, and those beside them."""
-    p, size = model.judge(plan), width(plan)
-    ends = {0, size - 1, p.l, p.l + p.limits.plc_width - 1, *model.predefined(p.limits, p.l)}
+    l = model.judge(plan).l
+    ends = {0, SYMBOL - 1, l, l + 7, *model.predefined(l)}
     ends.update(k for _, record in model.chain(plan)[1:] for k in (record.first, record.second))
-    return sorted({k + beside for k in ends for beside in (-1, 0, 1)} & set(range(size)))
+    return sorted({k + beside for k in ends for beside in (-1, 0, 1)} & set(range(SYMBOL)))
 
 
 def some_accepted(rng, model):
@@ -1213,24 +1046,21 @@ def some_accepted(rng, model):
 def whys(cases, step, thin, phases, some):
     """Reasons that are known; of several plans the subcarriers in steps of `step`, and of those at the ends of records one in
     `thin`; a subcarrier of each role at these phases; `some` plans by chance."""
-    a, b, rng = plans.PLAN_A, plans.PLAN_B, random.Random(22)
-    for plan, phase, value, n, subcarriers in (*known(), *known_25()):
+    a, rng = plans.PLAN_A, random.Random(22)
+    for plan, phase, value, n, subcarriers in known():
         cases.name('known reasons')
         for k in subcarriers:
             reason(cases, plan, k, phase, (value, n))
     for plan, phase in ((a, 0), (a, 14), (a, 125), (a, 127), (plans.LARGEST, 77), (plans.SINGLES_150, 127), (MIXED, 64),
-                        (plans.OVERLAPPING_510, 3), (b, 64), (plans.LARGEST_25, 127), (MIXED_25, 63)):
+                        (plans.OVERLAPPING_510, 3)):
         cases.name('reasons at phase %d' % phase)
         every = 10 * thin if plan == plans.OVERLAPPING_510 else thin        # that one has 2,300 ends
-        size = width(plan)
-        for k in sorted({*range(0, size, step * size // 4096), *ends_of(cases.model, plan)[::every]}):
+        for k in sorted({*range(0, SYMBOL, step), *ends_of(cases.model, plan)[::every]}):
             reason(cases, plan, k, phase)
-    for plan, k, value, met in ((MIXED, 0, 1, None), (MIXED, 975, 2, None), (MIXED, 994, 4, None), (MIXED, 860, 5, None),
-                                (MIXED, 1029, 7, 49), (MIXED, 1200, 7, 92), (MIXED_25, 1953, 2, None), (MIXED_25, 2052, 7, 46),
-                                (MIXED_25, 1961, 7, 64)):
+    for k, value, met in ((0, 1, None), (975, 2, None), (994, 4, None), (860, 5, None), (1029, 7, 49), (1200, 7, 92)):
         cases.name('reasons of %d at all phases' % k)
         for phase in phases:
-            assert reason(cases, plan, k, phase) == (6 if phase == met else value)
+            assert reason(cases, MIXED, k, phase) == (6 if phase == met else value)
     for _ in range(some):
         cases.name('reasons of a plan by chance')
         plan = some_accepted(rng, cases.model)
@@ -1238,23 +1068,23 @@ def whys(cases, step, thin, phases, some):
             reason(cases, plan, k, rng.randrange(128))
 
 
-def why_grounds(cases, of):
+def why_grounds(cases):
     """16 of a subcarrier and of a phase, some of which would be good with fewer bits, and after 14; 21 before both; answers of
     all lengths."""
-    a, refused, size, k = of.plan, of.refused, of.size, of.pilot
-    far = ((size, 0), (TOP, 0), (0, 128), (of.last, TOP), (size, 128), (TOP, TOP), ODD_NUMBERS,
-           (size + k, 14), (65536 + k, 14), (2 ** 31 + k, 14), (k, 128 + 14), (k, 256 + 14), (k, 2 ** 31 + 14))
+    a, refused = plans.PLAN_A, plans.near_a([(850, 854)])
+    far = ((4096, 0), (TOP, 0), (0, 128), (4095, TOP), (4096, 128), (TOP, TOP), ODD_NUMBERS,
+           (4096 + 866, 14), (65536 + 866, 14), (2 ** 31 + 866, 14), (866, 128 + 14), (866, 256 + 14), (866, 2 ** 31 + 14))
     cases.name('the grounds of a reason')
-    for plan, want in ((a, (16, 0)), (of.holed(4), (16, 0)), (of.largest, (16, 0)), (refused, (14, of.wide_at))):
-        for subcarrier, phase in far:
-            returned, after = cases.call('why', subcarrier, phase, plan=plan)
+    for plan, want in ((a, (16, 0)), (MIXED, (16, 0)), (plans.LARGEST, (16, 0)), (refused, (14, 835))):
+        for k, phase in far:
+            returned, after = cases.call('why', k, phase, plan=plan)
             assert (returned, after['answer'][:ANSWER]) == (want[0], number(want[1]) + bytes(12))
-    for plan in (a, of.holed(4), refused, b''):
-        for subcarrier, phase in ((k, 14), (size, 0), (0, TOP)):
+    for plan in (a, MIXED, refused, b''):
+        for k, phase in ((866, 14), (4096, 0), (0, TOP)):
             for room in (0, 1, ANSWER - 1):
-                assert cases.call('why', subcarrier, phase, plan=plan, answer=b'\x5A' * room)[0] == 21
+                assert cases.call('why', k, phase, plan=plan, answer=b'\x5A' * room)[0] == 21
             for room in (ANSWER, ANSWER + 1, 999):
-                cases.call('why', subcarrier, phase, plan=plan, answer=b'\x5A' * room)
+                cases.call('why', k, phase, plan=plan, answer=b'\x5A' * room)
 
 
 # --- the pilot lamp --------------------------------------------------------
@@ -1266,11 +1096,6 @@ OF_2000 = [1953, 1965, 1976, 1985, 2022, 2031, 2042, 2054]  # the predefined one
 MOST_PILOTS = [148 + 31 * i for i in range(119)] + [3948]
 # 128 pilots, from the lowest active subcarrier to the highest; the chain names them from the highest down.
 PLAN_128 = plans.full(pilots=MOST_PILOTS[::-1])
-# The same of the 25 kHz device: the pilots of Plan B, the predefined ones of L 4000, and 128 of them.
-EIGHT_25 = [1850, 1874, 1896, 1914, 1989, 2007, 2029, 2053]
-OF_4000 = [3906, 3930, 3952, 3970, 4045, 4063, 4085, 4109]
-MOST_PILOTS_25 = [296 + 62 * i for i in range(119)] + [7896]
-PLAN_128_25 = plans.full_25(pilots=MOST_PILOTS_25[::-1])
 
 
 def known_pilots():
@@ -1285,15 +1110,6 @@ def known_pilots():
                 (PLAN_128, sorted(MOST_PILOTS + OF_2000)))
     for l in (856, *range(945, 970), 1016, 1177):
         yield plans.near_a(L=l), [l - 47, l - 35, l - 24, l - 15, l + 22, l + 31, l + 42, l + 54]
-    near = plans.near_plan_b
-    low, high = plans.plan_25(408, 4, plans.outside_25(296, 1177)), plans.plan_25(7769, 4, plans.outside_25(7015, 7896))
-    yield from ((plans.PLAN_B, EIGHT_25), (MIXED_25, [1720, 1800, *EIGHT_25]),
-                (near(pilots=[2100, 1800, 2000, 1601]), [1601, 1800, *EIGHT_25[:5], 2000, *EIGHT_25[5:], 2100]),
-                (near(pilots=[2054, 1849, 1943, 1960, 1600, 2481]), [1600, 1849, *EIGHT_25[:4], 1943, 1960, *EIGHT_25[4:], 2054, 2481]),
-                (low, [314, 338, 360, 378, 453, 471, 493, 517]), (high, [7675, 7699, 7721, 7739, 7814, 7832, 7854, 7878]),
-                (plans.LARGEST_25, [*range(400, 1200, 20), *OF_4000]), (PLAN_128_25, sorted(MOST_PILOTS_25 + OF_4000)))
-    for l in (1712, *range(1900, 1945, 6), 2354):
-        yield near(L=l), [l - 94, l - 70, l - 48, l - 30, l + 45, l + 63, l + 85, l + 109]
 
 
 def pilot_lists(cases, some):
@@ -1307,7 +1123,7 @@ def pilot_lists(cases, some):
     for _ in range(some):
         cases.call('pilots', plan=some_accepted(rng, cases.model), pilots=rng.randbytes(256))
     cases.name('the buffers of a list')
-    for plan, want in ((plans.PLAN_A, 0), (PLAN_128, 0), (plans.PLAN_B, 0), (KHZ50.refused, 14), (KHZ25.refused, 14), (b'', 1)):
+    for plan, want in ((plans.PLAN_A, 0), (PLAN_128, 0), (plans.near_a([(850, 854)]), 14), (b'', 1)):
         for room in (0, 1, 2 * 8, 128, 254, 255, 256, 257, 258, 999):
             pilots = rng.randbytes(room)
             assert cases.call('pilots', plan=plan, pilots=pilots)[0] == (want if room >= 256 else 21)
@@ -1325,7 +1141,7 @@ class Lamp:
         self.pilots = lamp.MODEL.plan_pilots(plan)
         self.n = len(self.pilots)
         self.record = bytes(self.n + 1) if record is None else record
-        self.beside = some_bytes(self.rng, width(plan))
+        self.beside = some_bytes(self.rng, SYMBOL)
 
     def symbol(self, lost=()):
         """The mark at each pilot but those that lost it."""
@@ -1370,9 +1186,7 @@ def wrong_records(n, places):
 
 def lamp_lengths(one):
     """(what is other of a step, the number that refuses it) by the lengths of its buffers."""
-    right = 2 * width(one.plan)
-    for size, want in ((0, 17), (1, 21), (2, 17), (right - 2, 17), (right - 1, 21), (right + 1, 21), (right + 2, 17),
-                       (2 * other_size(right // 2), 17), (2 * right, 17)):
+    for size, want in ((0, 17), (1, 21), (2, 17), (8190, 17), (8191, 21), (8193, 21), (8194, 17), (16384, 17)):
         yield {'symbol': (one.symbol() * 2)[:size]}, want
     yield from (({'lights': one.rng.randbytes(size)}, 21) for size in (0, 1, 8, 126, 127))
     yield from (({'answer': b'\x5A' * size}, 21) for size in (0, 1, ANSWER - 1))
@@ -1383,8 +1197,7 @@ def lamp_grounds(cases, given_plans):
     17."""
     for seed, plan in enumerate(given_plans):
         cases.name('the grounds of the lamp')
-        of = DEVICES[SIZES.index(width(plan))]
-        refused = (({'plan': b''}, 1), ({'plan': of.refused}, 14), ({'plan': of.fewer}, 15))
+        refused = (({'plan': b''}, 1), ({'plan': plans.near_a([(850, 854)])}, 14), ({'plan': plans.ONE_PILOT_FEWER}, 15))
         one = Lamp(cases, plan, seed)
         one.record = bytes([9, *(one.rng.randrange(10) for _ in one.pilots)])
         records = list(wrong_records(one.n, (1, one.n // 2, one.n)))
@@ -1440,7 +1253,7 @@ def lamp_cells(cases, given_plans):
         one.record = bytes([128] * 9)
         assert one.hear(symbol=with_cell(one.symbol(), k, cell)) == one.lit([k])
     for beside in (lamp.MARK, 0, 65535):
-        one.beside, one.record = to_bytes([beside] * KHZ50.size), bytes(9)
+        one.beside, one.record = to_bytes([beside] * SYMBOL), bytes(9)
         assert one.hear() == one.lit()
         assert one.hear(EIGHT) == one.lit(EIGHT)
         assert one.hear(symbol=one.beside) == one.lit(EIGHT)
@@ -1467,7 +1280,7 @@ def lamp_runs(cases, given):
     """Runs, some of them of symbols that an emitter sends."""
     for seed, (plan, symbols, losses, some) in enumerate(given):
         lamp_run(cases, plan, 80 + seed, symbols, losses, some)
-    for plan, start in ((plans.near_a(M=3), 126), (at_depth(plans.LARGEST, 2), 64), (plans.near_plan_b(M=3), 126)):
+    for plan, start in ((plans.near_a(M=3), 126), (at_depth(plans.LARGEST, 2), 64)):
         cases.name('a lamp on the line')
         link, one = Link(cases, plan, start, 41), Lamp(cases, plan, 42)
         for t in range(4):
@@ -1477,27 +1290,24 @@ def lamp_runs(cases, given):
 
 def lamps(cases, small):
     """The cases of both calls."""
-    a, nine, largest, rng = plans.PLAN_A, plans.near_a(pilots=[900]), plans.LARGEST, random.Random(43)
-    b, nine_25 = plans.PLAN_B, plans.near_plan_b(pilots=[1800])
+    nine, largest, rng = plans.near_a(pilots=[900]), plans.LARGEST, random.Random(43)
     late = {5: [0], 127: [7], 128: [3], 150: [2], 200: [2], 260: range(8), 261: [1]}
     pilot_lists(cases, 2 if small else 40)
-    lamp_grounds(cases, (a, b) if small else (a, nine, largest, PLAN_128, b))
-    lamp_counts(cases, (nine,) if small else (a, nine, largest, PLAN_128), (0, 126, 127, 128) if small else (0, 1, 2, 63, 126, 127, 128))
-    lamp_counts(cases, (nine_25,) if small else (nine_25, PLAN_128_25), (0, 127, 128))
-    lamp_cells(cases, (a, b) if small else (a, largest, PLAN_128, b))
+    lamp_grounds(cases, (plans.PLAN_A,) if small else (plans.PLAN_A, nine, largest, PLAN_128))
+    lamp_counts(cases, (nine,) if small else (plans.PLAN_A, nine, largest, PLAN_128),
+                (0, 126, 127, 128) if small else (0, 1, 2, 63, 126, 127, 128))
+    lamp_cells(cases, (plans.PLAN_A,) if small else (plans.PLAN_A, largest, PLAN_128))
     lamp_runs(cases, ((nine, 131, {1: [0, 8], 2: [4]}, 9),) if small else
-              ((a, 300, late, 7), (nine, 127, {0: [0, 8], 1: [3]}, 9), (largest, 128, {0: [0], 1: [47], 2: [5]}, 9),
-               (PLAN_128, 129, {0: [0, 127], 1: [64], 2: [99]}, 9), (a, 131, {0: range(8), 1: [0], 2: [7]}, 9),
-               (nine_25, 131, {1: [0, 8], 2: [4]}, 9)))
+              ((plans.PLAN_A, 300, late, 7), (nine, 127, {0: [0, 8], 1: [3]}, 9), (largest, 128, {0: [0], 1: [47], 2: [5]}, 9),
+               (PLAN_128, 129, {0: [0, 127], 1: [64], 2: [99]}, 9), (plans.PLAN_A, 131, {0: range(8), 1: [0], 2: [7]}, 9)))
     for seed in range(4 if small else 60):
         cases.name('a lamp under a plan by chance')
-        plan = some_accepted(rng, cases.model)
-        one = Lamp(cases, plan, seed)
+        one = Lamp(cases, some_accepted(rng, cases.model), seed)
         first = rng.randrange(129)
         one.record = bytes([first, *(rng.choice((0, first, rng.randrange(first + 1))) for _ in one.pilots)])
         for _ in range(3):
             one.hear([k for k in one.pilots if rng.random() < 0.2])
-        one.hear(symbol=some_bytes(rng, width(plan)))
+        one.hear(symbol=some_bytes(rng, SYMBOL))
 
 
 # --- loads and streams -----------------------------------------------------
@@ -1511,12 +1321,12 @@ class Loaded:
 
     def __init__(self, cases, plan, phase, profile, seed, start=0):
         self.cases, self.rng, self.at = cases, random.Random(seed), cases.model.layout(plan)
-        self.model, self.phase, self.start, self.size = cases.model, phase, start, width(plan)
+        self.model, self.phase, self.start = cases.model, phase, start
         self.loads = self.model.data_loads(self.at, profile, phase)
         self.limits = [self.model.limit(load) for load in self.loads]
         self.need = sum(self.loads)
         self.good = {'plan': plan, 'profile': profile, 'data': fitting_data(self.rng, self.model, self.loads),
-                     'stream': self.rng.randbytes(-(-(start + self.need) // 8)), 'symbol': some_bytes(self.rng, self.size)}
+                     'stream': self.rng.randbytes(-(-(start + self.need) // 8)), 'symbol': some_bytes(self.rng, SYMBOL)}
         marks = self.model.marks_at(self.at, phase)
         self.line = to_bytes([self.model.limit(load) if mark is None else mark for mark, load in zip(marks, profile)])
         self.carriers = [k for k, mark in enumerate(marks) if mark is None]     # of data, in the arriving symbol
@@ -1549,42 +1359,40 @@ class Loaded:
 def of_each_role(model, at, phase):
     """A subcarrier of each role at the phase, and the first and the last of all."""
     marks = model.marks_at(at, phase)
-    last = len(marks) - 1
-    return sorted({0, last, *(marks.index(mark) for mark in set(marks)), last - marks[::-1].index(None)})
+    return sorted({0, 4095, *(marks.index(mark) for mark in set(marks)), 4095 - marks[::-1].index(None)})
 
 
-def profiles(cases, of, given_plans, values, calls=LOADED):
+def profiles(cases, values):
     """25: other lengths, each byte that is not listed, at every role; the lowest of several; 25 after 15, and before 16 to 20 and 26."""
-    rng, size, last = random.Random(30), of.size, of.last
-    for plan, phase in given_plans:
-        profile = some_profile(rng, size=size)
+    rng = random.Random(30)
+    for plan, phase in ((plans.PLAN_A, 5), (plans.near_a([(850, 853)], [900], M=7), 127)):
+        profile = some_profile(rng)
         given = Loaded(cases, plan, phase, profile, 31)
-        for name in calls:
+        for name in LOADED:
             cases.name('profiles of %s' % name)
             given.call(name, given.value(name))
-            for bad in (b'', profile[:1], profile[1:], profile + b'\0', profile * 2, profile[:size // 2], b'\5', b'\5' * last,
-                        b'\5' * (size + 1)):
+            for bad in (b'', profile[:1], profile[1:], profile + b'\0', profile * 2, b'\5', b'\5' * 4095, b'\5' * 4097):
                 given.call(name, (25, 0), profile=bad)
-            for k in of_each_role(cases.model, given.at, phase):
+            roles = of_each_role(cases.model, given.at, phase)
+            for k in roles:
                 for load in (1, 2, 3, 5, 15, 16, 255):
                     given.call(name, (25, k), profile=with_load(profile, k, load))
             for load in values:
-                k = rng.randrange(size)
+                k = rng.randrange(SYMBOL)
                 given.call(name, (25, k), profile=with_load(profile, k, load))
             for load in LISTED:
-                for k in (0, last):                                 # excluded: the load does not matter
+                for k in (0, 4095):                                 # excluded: the load does not matter
                     given.call(name, given.value(name), profile=with_load(profile, k, load))
-            low = of.ends[0]
-            for first, second in ((0, last), (1, 2), (15, 16), (size // 2 - 1, size // 2), (low - 1, low)):
-                given.call(name, (25, first), profile=with_load(with_load(profile, first, 255), second, 5))
-            bad = with_load(profile, last - 95, 5)
+            for low, high in ((0, 4095), (1, 2), (15, 16), (2047, 2048), (799, 800)):
+                given.call(name, (25, low), profile=with_load(with_load(profile, low, 255), high, 5))
+            bad = with_load(profile, 4000, 5)
             far = (128, 99)[:CALLS[name][0]] if name not in STARTED else (128, FAR)
             for other in ({'numbers': far}, {'store': b''}, {'symbol': b''}, {'data': b''}, {'stream': b''},
                           {'numbers': far, 'store': b'', 'symbol': b'', 'data': b'', 'stream': b''}):
-                given.call(name, (25, last - 95), profile=bad, **other)
+                given.call(name, (25, 4000), profile=bad, **other)
                 given.call(name, (25, 0), profile=bad[1:], **other)
-            given.call(name, (14, of.wide_at), profile=bad, plan=of.refused)
-            given.call(name, (15, 0), profile=b'', plan=of.fewer)
+            given.call(name, (14, 835), profile=bad, plan=plans.near_a([(850, 854)]))
+            given.call(name, (15, 0), profile=b'', plan=plans.ONE_PILOT_FEWER)
             given.call(name, (21,), profile=bad, data=b'\0')
             for room in (0, 1, ANSWER - 1):
                 given.call(name, (21,), profile=bad, answer=b'\x5A' * room)
@@ -1592,10 +1400,10 @@ def profiles(cases, of, given_plans, values, calls=LOADED):
 
 def loads_limits(cases, plan_phases):
     """The limit of each load, and one more, at the first, the middle and the last data cell of emit and unfill, and at the first, the
-    middle and the last subcarrier with data of receive."""
+    middle and the last subcarrier with data of receive.  With load 0 the cell is 0 or 1."""
     for plan, phase in plan_phases:
         for turn in range(len(LISTED)):
-            profile = bytes(LISTED[(k + turn) % len(LISTED)] for k in range(width(plan)))
+            profile = bytes(LISTED[(k + turn) % len(LISTED)] for k in range(SYMBOL))
             given = Loaded(cases, plan, phase, profile, turn)
             cases.name('limits of loads at phase %d' % phase)
             top = to_bytes(given.limits)
@@ -1615,20 +1423,15 @@ def loads_limits(cases, plan_phases):
                 for cell in (most + 1, 2 * most + 1, 16384, 0x8000, 0x8005):
                     if cell > most:
                         given.call('receive', (20, k), symbol=with_cell(given.line, k, cell))
-                given.call('receive', (20, k), symbol=with_cell(with_cell(given.line, k, most + 1), given.size - 1, 0))
-
-
-def no_loads(cases, of):
-    """Load 0 everywhere: a cell is 0 or 1."""
+                given.call('receive', (20, k), symbol=with_cell(with_cell(given.line, k, most + 1), 4095, 0))
     cases.name('load 0')
-    low, high = of.ends
     for cells, want in (((0,), None), ((1,), None), ((0, 1), None), ((2,), 0), ((1, 1, 2), 2), ((0, 0, 0, 3), 3)):
-        given = Loaded(cases, of.plan, 9, bytes(of.size), 32)
+        given = Loaded(cases, plans.PLAN_A, 9, bytes(SYMBOL), 32)
         count = len(given.loads)
         data = to_bytes([cells[i % len(cells)] for i in range(count)])
         for name in ('emit', 'unfill'):
             given.call(name, given.value(name) if want is None else (19, want), data=data)
-        for k, cell in ((low, 0), (low, 1), (high, 1), (low, 2), (high, 3)):
+        for k, cell in ((800, 0), (800, 1), (1240, 1), (800, 2), (1240, 3)):
             given.call('receive', (0,) if cell < 2 else (20, k), symbol=with_cell(given.line, k, cell))
 
 
@@ -1646,7 +1449,7 @@ def fillings(cases, given_plans, seed):
     """Symbols filled and taken back: from every bit of a byte, with bytes before and behind, with exactly enough bits and one too few."""
     rng = random.Random(seed)
     for plan, phase, loads in given_plans:
-        profile = some_profile(rng, loads, width(plan))
+        profile = bytes(rng.choice(loads) for _ in range(SYMBOL))
         cases.name('streams of loads %s' % (loads,))
         for start in (*range(9), 15, 16, 77):
             given = Loaded(cases, plan, phase, profile, start, start)
@@ -1670,11 +1473,11 @@ def fillings(cases, given_plans, seed):
                 given.call(name, (26, 0), numbers=(phase, start))
 
 
-def no_bits(cases, of):
+def no_bits(cases):
     """Symbols whose loads add up to 0, for which no start is too far, and symbols of which one cell carries bits."""
     rng = random.Random(33)
     cases.name('symbols without bits')
-    given = Loaded(cases, of.plan, 77, bytes(of.size), 33)
+    given = Loaded(cases, plans.PLAN_A, 77, bytes(SYMBOL), 33)
     for start in (0, 1, 7, 8, 9, 800, 801, 2 ** 32, FAR - 7, FAR):
         for size in (0, 1, 100):
             stream = rng.randbytes(size)
@@ -1686,8 +1489,8 @@ def no_bits(cases, of):
     free = [p for p, held in enumerate(cases.model.placeholders(at, 77)) if not held]
     for c in (0, 1, count // 2, count - 1):
         for load in (4, 6, 14):
-            profile = with_load(bytes(of.size), at.carriers[free[c]], load)
-            given = Loaded(cases, of.plan, 77, profile, c)
+            profile = with_load(bytes(SYMBOL), at.carriers[free[c]], load)
+            given = Loaded(cases, plans.PLAN_A, 77, profile, c)
             for size, start in ((1, 0), (1, 2), (1, 4), (1, 5), (2, 2), (2, 3), (2, 4), (2, 8), (3, 7), (3, 9), (3, 10), (3, 11)):
                 want = (0, load) if start + load <= 8 * size else (26, 0)
                 for name in STARTED:
@@ -1696,11 +1499,11 @@ def no_bits(cases, of):
                 given.call('unfill', (0, load), data=with_cell(given.good['data'], c, cell))
 
 
-def stream_grounds(cases, of):
+def stream_grounds(cases):
     """The order of grounds of fill and unfill, odd data, short answers, and a flush that was handed out."""
     rng = random.Random(34)
-    for plan, phase in ((of.plan, 3), (of.near(M=1), 127)):
-        given = Loaded(cases, plan, phase, some_profile(rng, size=of.size), 34, 2)
+    for plan, phase in ((plans.PLAN_A, 3), (plans.near_a(M=1), 127)):
+        given = Loaded(cases, plan, phase, some_profile(rng), 34, 2)
         good, count = given.good['data'], len(given.loads)
         cases.name('the grounds of streams')
         high = with_cell(good, 0, 65535)
@@ -1708,7 +1511,7 @@ def stream_grounds(cases, of):
             for phases in (128, 129, phase + 128, 65536 + phase, TOP):
                 given.call(name, (16, 0), numbers=(phases, 2))
                 given.call(name, (16, 0), numbers=(phases, FAR), data=b'', stream=b'')
-            for data in (b'', good[2:], good[:-2], good + b'\0\0', high[:-2], bytes(2 * given.at.n), bytes(2 * of.size)):
+            for data in (b'', good[2:], good[:-2], good + b'\0\0', high[:-2], bytes(2 * given.at.n), bytes(2 * SYMBOL)):
                 given.call(name, (18, 0), data=data)
                 given.call(name, (18, 0), data=data, stream=b'')
                 given.call(name, (18, 0), data=data, numbers=(phase, FAR))
@@ -1758,15 +1561,15 @@ def stream_run(cases, plan, start, seed, profile, symbols, first):
     assert all_bits(back) == all_bits(was)[:first] + all_bits(stream)[first:position] + all_bits(was)[position:]
 
 
-def stream_runs(cases, of, depths, large):
+def stream_runs(cases, depths, large):
     rng = random.Random(35)
     for m in depths:
         for loads in ((14,), LISTED, (0, 0, 6)):
             cases.name('a stream through a link of depth %d' % m)
-            stream_run(cases, of.near(M=m), 127 - m // 2, m, some_profile(rng, loads, of.size), 7, rng.randrange(20))
+            stream_run(cases, plans.near_a(M=m), 127 - m // 2, m, some_profile(rng, loads), 7, rng.randrange(20))
     for m in large:
         cases.name('a stream through a large link of depth %d' % m)
-        stream_run(cases, at_depth(of.largest, m), 126, m, some_profile(rng, size=of.size), 3, 5)
+        stream_run(cases, at_depth(plans.LARGEST, m), 126, m, some_profile(rng), 3, 5)
 
 
 # --- the modulator ---------------------------------------------------------
@@ -1776,7 +1579,7 @@ UNLISTED = (0, 3, 5, 15, 16, 17, 32, 38, 128, 255)
 ODD_SINGLES = (0, 0x80000000, 1, 0x807FFFFF, 0x7F800000, 0xFF800000, 0x7FC00000, 0xFFC12345, 0x7F800001, 0xFFBFFFFF, 0x3F400000)
 
 
-def some_singles(rng, count):
+def some_singles(rng, count=2 * SYMBOL):
     """So many numbers of any bits, one in four of them an odd one."""
     bits = array('I', rng.randbytes(4 * count))
     for i in range(0, count, 4):
@@ -1784,13 +1587,13 @@ def some_singles(rng, count):
     return bits.tobytes()
 
 
-def some_line(rng, marks=0.3, size=KHZ50.size):
+def some_line(rng, marks=0.3):
     """What modulate is given: each subcarrier with some load, a value below 2 to it or a mark, and a sign."""
-    loads = bytes(rng.choice(points.Points.loads) for _ in range(size))
+    loads = bytes(rng.choice(points.Points.loads) for _ in range(SYMBOL))
     cells = [rng.choice(points.MARKS) if rng.random() < marks else rng.choice((0, 2 ** m - 1, rng.randrange(2 ** m)))
              for m in loads]
     return {'symbol': to_bytes(cells), 'loads': loads, 'minus': bytes(rng.choice((0, 0, 1, 2, 128, 255)) for _ in loads),
-            'numbers': some_singles(rng, 2 * size)}
+            'numbers': some_singles(rng)}
 
 
 def with_line(given, k, cell=None, load=None):
@@ -1812,10 +1615,9 @@ def modulate(cases, want, given):
 def every_point(rng):
     """Lines with every value of every load."""
     all_values = [(value, load) for load in points.Points.loads for value in range(2 ** load)]
-    size = KHZ50.size
-    all_values += [(0x8000 + i % 5, 6) for i in range(-len(all_values) % size)]
-    for i in range(0, len(all_values), size):
-        cells, loads = zip(*all_values[i:i + size])
+    all_values += [(0x8000 + i % 5, 6) for i in range(-len(all_values) % SYMBOL)]
+    for i in range(0, len(all_values), SYMBOL):
+        cells, loads = zip(*all_values[i:i + SYMBOL])
         yield {**some_line(rng), 'symbol': to_bytes(cells), 'loads': bytes(loads)}
 
 
@@ -1824,19 +1626,17 @@ def modulations(cases, some, every):
     rng = random.Random(14)
     cases.name('modulator symbols')
     for i in range(some):
-        modulate(cases, (0,), some_line(rng, (0.3, 0.02, 0.9)[i % 3], SIZES[i % 6 // 5]))       # one in six of the 25 kHz device
-    modulate(cases, (0,), some_line(rng, size=KHZ25.size))
-    for of in DEVICES:
-        for mark in points.MARKS:
-            modulate(cases, (0,), {**some_line(rng, size=of.size), 'symbol': to_bytes([mark] * of.size)})
+        modulate(cases, (0,), some_line(rng, (0.3, 0.02, 0.9)[i % 3]))
+    for mark in points.MARKS:
+        modulate(cases, (0,), {**some_line(rng), 'symbol': to_bytes([mark] * SYMBOL)})
     for line in every_point(rng) if every else ():
         modulate(cases, (0,), line)
     cases.name('modulator symbols of emitted ones')
-    for plan, start in ((plans.near_a(M=3), 126), (at_depth(plans.LARGEST, 2), 64), (plans.near_plan_b(M=3), 126)):
-        link, size = Link(cases, plan, start, 15), width(plan)
+    for plan, start in ((plans.near_a(M=3), 126), (at_depth(plans.LARGEST, 2), 64)):
+        link = Link(cases, plan, start, 15)
         for t in range(4):
             link.send(t == 2)
-            given = {**some_line(rng, size=size), 'symbol': link.symbol, 'loads': bytes([14] * size)}
+            given = {**some_line(rng), 'symbol': link.symbol, 'loads': bytes([14] * SYMBOL)}
             modulate(cases, (0,), given)
             k, cell = rng.choice([(k, cell) for k, cell in enumerate(to_cells(link.symbol)) if cell not in points.MARKS])
             short = [load for load in points.Points.loads if 2 ** load <= cell]
@@ -1845,9 +1645,9 @@ def modulations(cases, some, every):
                 modulate(cases, (23, cell, k), with_line(given, k, load=load))
 
 
-def refused_lines(cases, of, subcarriers):
+def refused_lines(cases, subcarriers):
     """22 and 23 at these subcarriers, of each load and each kind of cell, and several in one symbol."""
-    rng, good = random.Random(15), {**some_line(random.Random(16), size=of.size), 'answer': bytes(ANSWER)}
+    rng, good = random.Random(15), {**some_line(random.Random(16)), 'answer': bytes(ANSWER)}
     for k in subcarriers:
         cases.name('refused at subcarrier %d' % k)
         load, bad = rng.choice(points.Points.loads), rng.choice(UNLISTED)
@@ -1862,24 +1662,24 @@ def refused_lines(cases, of, subcarriers):
     for mark in points.MARKS:
         modulate(cases, (22, 3, 1000), with_line(good, 1000, mark, 3))
     for load in points.Points.loads:
-        k = rng.randrange(of.size)
+        k = rng.randrange(SYMBOL)
         modulate(cases, (0,), with_line(good, k, 2 ** load - 1, load))
         modulate(cases, (23, 2 ** load, k), with_line(good, k, 2 ** load, load))
     for cell in (16384, 0x7FFF, 0x8005, 0x8010, 0x9000, 65535):
         modulate(cases, (23, cell, 2000), with_line(good, 2000, cell, 14))
     cases.name('several refusals in one symbol')
-    for a, b in ((0, of.last), (7, 8), (15, 16), (of.size // 2 - 1, 3000 * of.size // 4096)):
+    for a, b in ((0, 4095), (7, 8), (15, 16), (2047, 3000)):
         modulate(cases, (22, 5, a), with_line(with_line(good, a, 0, 5), b, 64, 6))
         modulate(cases, (23, 64, a), with_line(with_line(good, b, 0, 5), a, 64, 6))
         modulate(cases, (22, 3, a), with_line(with_line(good, a, 0, 3), b, 0, 5))
         modulate(cases, (23, 9999, a), with_line(with_line(good, a, 9999, 13), b, 2, 1))
-    modulate(cases, (22, 0, 0), {**good, 'loads': bytes(of.size)})
-    modulate(cases, (23, 65535, 0), {**good, 'symbol': b'\xFF' * 2 * of.size})
+    modulate(cases, (22, 0, 0), {**good, 'loads': bytes(SYMBOL)})
+    modulate(cases, (23, 65535, 0), {**good, 'symbol': b'\xFF' * 2 * SYMBOL})
 
 
-def modulate_lengths(cases, of):
-    """Each buffer one longer, one shorter, empty, and of the other device; 21 before 17, 17 before 22 and 23; short answers."""
-    good = some_line(random.Random(17), size=of.size)
+def modulate_lengths(cases):
+    """Each buffer one longer, one shorter and empty; 21 before 17, 17 before 22 and 23; short answers."""
+    good = some_line(random.Random(17))
     bad = with_line(with_line(good, 0, 65535, 6), 1, 0, 5)
     cases.name('the lengths of what modulate is given')
     steps = {'symbol': 2, 'loads': 1, 'minus': 1, 'numbers': 4}
@@ -1893,8 +1693,6 @@ def modulate_lengths(cases, of):
         for room in (0, 1, ANSWER - 1):
             for other in ({}, {'symbol': b'\0'}, {'minus': b''}):
                 modulate(cases, (21,), {**given, **other, 'answer': b'\x5A' * room})
-    for size in (of.size - 1, of.size + 1, 0, 3 * of.size):         # of no device
-        modulate(cases, (17,), some_line(random.Random(18), size=size))
     empty = dict.fromkeys(steps, b'')
     modulate(cases, (17,), {**empty, 'answer': bytes(ANSWER)})
     modulate(cases, (21,), {**empty, 'answer': b''})
@@ -1904,14 +1702,14 @@ def modulate_lengths(cases, of):
 def example(path):
     """What examples/modulate.c prints of a plan."""
     model, plan = Interface(), open(path, 'rb').read()
-    at, phase, size = model.layout(plan), 125, width(plan)
-    store, symbol = bytes(2 * emitter_length(at.n, at.m)), bytes(2 * size)
+    at, phase = model.layout(plan), 125
+    store, symbol = bytes(2 * emitter_length(at.n, at.m)), bytes(2 * SYMBOL)
     store = model.call('fresh_emitter', (phase,), {'plan': plan, 'store': store, 'answer': bytes(ANSWER)})[1]['store']
-    profile = bytes(0 if k % 10 == 9 else 6 + k % 9 for k in range(size))
-    given = {'loads': bytes(load or 1 for load in profile), 'minus': bytes(k % 2 for k in range(size)),
-             'numbers': bytes(8 * size), 'answer': bytes(ANSWER)}
+    profile = bytes(0 if k % 10 == 9 else 6 + k % 9 for k in range(SYMBOL))
+    given = {'loads': bytes(load or 1 for load in profile), 'minus': bytes(k % 2 for k in range(SYMBOL)),
+             'numbers': bytes(8 * SYMBOL), 'answer': bytes(ANSWER)}
     for t in range(at.m):
-        stream = bytes((t * 77 + i * i * 31 + i // 3) % 256 for i in range(names()['DATA_BYTES_MAX']))
+        stream = bytes((t * 77 + i * i * 31 + i // 3) % 256 for i in range(7490))
         loaded = {'plan': plan, 'profile': profile, 'answer': bytes(ANSWER)}
         data = model.call('fill', (phase, 0), {**loaded, 'stream': stream, 'data': bytes(2 * model.count(at, phase))})[1]['data']
         after = model.call('emit', (phase,), {**loaded, 'store': store, 'data': data, 'symbol': symbol})[1]
@@ -1933,7 +1731,7 @@ def link_example(path):
     """What examples/link.c prints of a plan."""
     model, plan = Interface(), open(path, 'rb').read()
     at, symbols = model.layout(plan), 10
-    profile = bytes((14, 14, 0, 14, 4, 14, 9, 14)[k % 8] for k in range(width(plan)))
+    profile = bytes((14, 14, 0, 14, 4, 14, 9, 14)[k % 8] for k in range(SYMBOL))
     bits = sum(sum(model.data_loads(at, profile, (125 + t) % 128)) for t in range(symbols))
     print('%s: accepted, N_I %d, depth %d' % (path, at.n, at.m))
     print('both ends started at phase 125, with stores of %d and %d bytes'
@@ -1977,57 +1775,34 @@ def check_words():
         assert shown in ' '.join(page.split()), 'docs/C-HOST.md should have ' + shown
 
 
-def shown_calls():
-    """The calls whose answers docs/C-HOST.md shows."""
-    a, b, model = plans.PLAN_A, plans.PLAN_B, Interface()
-    steps = {'plan': a, 'profile': full(a), 'store': bytes(2 * 636), 'symbol': bytes(2 * width(a))}
-    data, data_25 = bytes(2 * model.data_count(a, 126)), bytes(2 * model.data_count(b, 126))
-    filling = {'plan': a, 'profile': full(a), 'stream': bytes(1000), 'data': data}
-    heard = {'symbol': bytes(2 * width(a)), 'record': bytes(49), 'lights': bytes(128)}
-    line = {'symbol': to_bytes([64 if k == 900 else 0x8002 for k in range(width(a))]), 'loads': bytes([6] * width(a)),
-            'minus': bytes(width(a)), 'numbers': bytes(8 * width(a))}
-    yield from (('judge', (), {'plan': a}), ('judge', (), {'plan': plans.near_a([(850, 854)])}), ('try', (850, 853), {'plan': a}),
-                ('why', (948, 0), {'plan': a}), ('why', (4095, 0), {'plan': a}), ('why', (1029, 48), {'plan': a}),
-                ('emit', (126,), {**steps, 'data': with_cell(data, 7, 16384)}), ('emit', (126,), {**steps, 'data': data}),
-                ('emit', (126,), {**steps, 'data': data, 'profile': with_load(full(a), 905, 5)}),
-                ('fill', (126, 5), filling), ('fill', (126, 2107), filling),
-                ('pilots', (), {'plan': a, 'pilots': bytes(256)}), ('lamp', (), {'plan': plans.LARGEST, **heard}),
-                ('lamp', (), {'plan': a, **heard}), ('modulate', (), line),
-                ('judge', (), {'plan': b}), ('judge', (), {'plan': plans.near_plan_b([(1700, 1708)])}),
-                ('why', (8191, 0), {'plan': b}), ('why', (2051, 46), {'plan': b}),
-                ('emit', (126,), {'plan': b, 'profile': full(a), 'store': bytes(2 * 1285), 'data': data_25, 'symbol': bytes(2 * width(b))}))
-
-
 def check_page():
-    """The twenty answers that docs/C-HOST.md shows, its table of the reasons, that of the sizes, and its examples of a stream and of a
-    lamp."""
-    model, page = Interface(), (ROOT / 'docs' / 'C-HOST.md').read_text()
-    at = page.index('\nTwenty answers, as they stand in memory.')
-    for name, numbers, given in shown_calls():
+    """The fifteen answers that docs/C-HOST.md shows, its table of the reasons, and its examples of a stream and of a lamp."""
+    model, a, page = Interface(), plans.PLAN_A, (ROOT / 'docs' / 'C-HOST.md').read_text()
+    count = model.data_count(a, 126)
+    steps = {'plan': a, 'profile': FULL, 'store': bytes(2 * 636), 'symbol': bytes(2 * SYMBOL)}
+    data = bytes(2 * count)
+    filling = {'plan': a, 'profile': FULL, 'stream': bytes(1000), 'data': data}
+    heard = {'symbol': bytes(2 * SYMBOL), 'record': bytes(49), 'lights': bytes(128)}
+    line = {'symbol': to_bytes([64 if k == 900 else 0x8002 for k in range(SYMBOL)]), 'loads': bytes([6] * SYMBOL),
+            'minus': bytes(SYMBOL), 'numbers': bytes(8 * SYMBOL)}
+    for name, numbers, given in (('judge', (), {'plan': a}),
+                                 ('judge', (), {'plan': plans.near_a([(850, 854)])}),
+                                 ('try', (850, 853), {'plan': a}),
+                                 ('why', (948, 0), {'plan': a}), ('why', (4095, 0), {'plan': a}), ('why', (1029, 48), {'plan': a}),
+                                 ('emit', (126,), {**steps, 'data': with_cell(data, 7, 16384)}),
+                                 ('emit', (126,), {**steps, 'data': data}),
+                                 ('emit', (126,), {**steps, 'data': data, 'profile': with_load(FULL, 905, 5)}),
+                                 ('fill', (126, 5), filling), ('fill', (126, 2107), filling),
+                                 ('pilots', (), {'plan': a, 'pilots': bytes(256)}), ('lamp', (), {'plan': plans.LARGEST, **heard}),
+                                 ('lamp', (), {'plan': a, **heard}), ('modulate', (), line)):
         returned, after = model.call(name, numbers, {**given, 'answer': bytes(ANSWER)})
         shown = '| %d | `%s`' % (returned, after['answer'].hex(' ', 4).upper())
-        assert shown in page[at:], 'docs/C-HOST.md should have, in this order, ' + shown
-        at = page.index(shown, at) + 1
+        assert shown in page, 'docs/C-HOST.md should have ' + shown
     for value, ((role, _), name) in enumerate(WHYS.items(), 1):
         shown = '| %d | `HEADEND_WHY_%s` | %s |' % (value, name, role.replace('plc', 'PLC'))
         assert shown in page, 'docs/C-HOST.md should have ' + shown
-    check_sizes(page)
     check_stream(page)
     check_lamp(page)
-
-
-def check_sizes(page):
-    """The table of sizes in docs/C-HOST.md."""
-    wanted = names()
-    for name in ('SUBCARRIERS', 'DEPTH', 'SYMBOL_BYTES', 'PROFILE_BYTES', 'NUMBERS', 'DATA_BYTES'):
-        three = (wanted[name + end] for end in ('_50KHZ', '_25KHZ', '_MAX'))
-        shown = '`HEADEND_%s` | %s | %s | %s |' % (name, *(format(size, ',') for size in three))
-        assert shown in page, 'docs/C-HOST.md should have ' + shown
-    for end, length in (('EMITTER', emitter_length), ('RECEIVER', receiver_length)):
-        two = (2 * length(of.limits.most_ranks, of.limits.highest_m) for of in DEVICES)
-        name = end + '_STORE_BYTES_MAX'
-        shown = '| %s | %s | %s, `HEADEND_%s` |' % (*(format(size, ',') for size in two), format(wanted[name], ','), name)
-        assert shown in page, 'docs/C-HOST.md should have ' + shown
 
 
 def check_stream(page):
@@ -2035,7 +1810,7 @@ def check_stream(page):
     model, a, first = Interface(), plans.PLAN_A, bytes.fromhex('B469D2')
     at = model.layout(a)
     assert [p for p, held in enumerate(model.placeholders(at, 0)) if not held][:4] == [0, 1, 2, 3]
-    profile = full(a)
+    profile = FULL
     for k, load in zip(at.carriers, (4, 0, 6)):
         profile = with_load(profile, k, load)
     bits, start = sum(model.data_loads(at, profile, 0)), 3
@@ -2098,80 +1873,40 @@ def check_reached(cases):
     assert cases.empty == set(BUFFERS)
 
 
-def questions(cases, small):
-    """The header, verdicts, roles and reasons, lamps, and what is asked of a plan."""
-    a, largest, singles, b = plans.PLAN_A, plans.LARGEST, plans.SINGLES_150, plans.PLAN_B
-    phases = (0, 1, 63, 127) if small else range(128)
+def write(path, small):
+    cases = Cases(path)
     header_names(cases)
     helpers(cases, range(0, 128, 5) if small else range(128))
     verdicts(cases, 0 if small else 600)
-    roles(cases, ((a, 0), (a, 14), (a, 125), (a, 127), (largest, 77), (singles, 127)), 127 if small else 1)
-    roles(cases, ((b, 0), (b, 63), (b, 64), (b, 127), (plans.LARGEST_25, 77)), 255 if small else 9)
-    whys(cases, 512 if small else 11, 7 if small else 1, (0, 46, 48, 49, 50, 64, 92, 127) if small else range(128), 5 if small else 100)
+    roles(cases, range(0, 4096, 127) if small else range(4096))
+    whys(cases, 512 if small else 11, 7 if small else 1, (0, 48, 49, 50, 92, 127) if small else range(128), 5 if small else 100)
+    why_grounds(cases)
     lamps(cases, small)
-    counts(cases, (a, plans.near_a(M=3), plans.near_b(), at_depth(largest, 31), singles), phases)
-    counts(cases, (b, plans.near_plan_b(M=3)), phases)
+    counts(cases, (0, 1, 63, 127) if small else range(128))
+    refused_plans(cases)
+    lent_rooms(cases)
+    store_lengths(cases, (1, 2, 31) if small else (1, 2, 3, 4, 7, 31, 32))
+    empty_buffers(cases)
+    losses(cases)
     trials(cases, RANGES[::4] if small else RANGES, 8 if small else 1, 5 if small else 200)
     tried_limits(cases)
-    for of in DEVICES:
-        why_grounds(cases, of)
-        tried_chains(cases, of)
-    for of in DEVICES[:1] if small else DEVICES:
-        tried_numbers(cases, of)
-
-
-def of_device(cases, of, small):
-    """The cases of which each device has its own; of the 25 kHz device fewer, if there are to be few."""
-    few = small and of is KHZ25
-    refused_plans(cases, of, '' if of is KHZ50 else '-25', 4 if few else 1)
-    refused_lines(cases, of, (0, 15, of.last) if small or of is KHZ25 else (0, 1, 7, 8, 15, 16, 255, 2047, 2048, 4094, 4095))
-    modulate_lengths(cases, of)
-    no_loads(cases, of)
-    if not few:
-        lent_rooms(cases, of)
-        empty_buffers(cases, of)
-        no_bits(cases, of)
-        stream_grounds(cases, of)
-
-
-def steps_50(cases, small):
-    """Fresh starts, steps and streams of the 50 kHz device."""
-    a, near, of = plans.PLAN_A, plans.near_a, KHZ50
-    mixed = (near(M=3), 125, LISTED)
-    store_lengths(cases, of, (1, 2, 31) if small else (1, 2, 3, 4, 7, 31, 32))
-    profiles(cases, of, ((a, 5), (of.holed(7), 127)), NOT_LOADS[::40] if small else NOT_LOADS)
-    loads_limits(cases, ((a, 5),) if small else ((a, 0), (of.holed(31), 127), (at_depth(of.largest, 32), 64)))
-    fillings(cases, (mixed,) if small else (mixed, (a, 0, (14,)), (a, 1, (0, 4)), (plans.near_b(), 64, LISTED), (near(M=32), 99, (8,)),
-                                            (a, 3, (0,)), (plans.SINGLES_150, 7, LISTED)), 36)
-    stream_runs(cases, of, (1, 4) if small else (1, 2, 3, 4, 7, 31, 32), () if small else (1, 2, 4))
-    depths = (1, 31) if small else (1, 2, 3, 4, 7, 16, 31, 32)
-    any_states(cases, [plan for m in depths for plan in (of.holed(m), at_depth(plans.SINGLES_150, m))])
-    wrong = (1, 4) if small else (1, 2, 4, 7)
-    runs(cases, of, (1, 3, 4) if small else range(1, 33), (2,) if small else (1, 2, 3, 4, 7, 31, 32), wrong, wrong, 5 if small else 140)
-
-
-def steps_25(cases, small):
-    """The same of the 25 kHz device: at M = 1, 3 and 16, round the wrap of the phases."""
-    b, near, of = plans.PLAN_B, plans.near_plan_b, KHZ25
-    store_lengths(cases, of, (1, 16) if small else (1, 3, 15, 16))
-    profiles(cases, of, ((of.holed(3), 127),), NOT_LOADS[::80] if small else NOT_LOADS[::10], ('emit',) if small else LOADED)
-    loads_limits(cases, () if small else ((of.holed(16), 127),))
-    fillings(cases, () if small else ((near(M=3), 125, LISTED),), 37)
-    stream_runs(cases, of, (3,) if small else (1, 3, 16), ())
-    any_states(cases, (of.holed(1), of.holed(16)) if small else [of.holed(m) for m in (1, 3, 4, 15, 16)])
-    runs(cases, of, (1, 3) if small else (1, 3, 16), () if small else (16,), () if small else (1, 3), () if small else (3,),
-         5 if small else 134)
-
-
-def write(path, small):
-    cases = Cases(path)
-    questions(cases, small)
-    for of in DEVICES:
-        of_device(cases, of, small)
-    losses(cases)
+    tried_chains(cases)
+    tried_numbers(cases)
     modulations(cases, 3 if small else 30, not small)
-    steps_50(cases, small)
-    steps_25(cases, small)
+    refused_lines(cases, (0, 15, 4095) if small else (0, 1, 7, 8, 15, 16, 255, 2047, 2048, 4094, 4095))
+    modulate_lengths(cases)
+    profiles(cases, NOT_LOADS[::40] if small else NOT_LOADS)
+    loads_limits(cases, ((plans.PLAN_A, 5),) if small else ((plans.PLAN_A, 0), (plans.near_a([(850, 853)], [900], M=31), 127),
+                                                            (at_depth(plans.LARGEST, 32), 64)))
+    mixed = (plans.near_a(M=3), 125, LISTED)
+    fillings(cases, (mixed,) if small else (mixed, (plans.PLAN_A, 0, (14,)), (plans.PLAN_A, 1, (0, 4)), (plans.near_b(), 64, LISTED),
+                                            (plans.near_a(M=32), 99, (8,)), (plans.PLAN_A, 3, (0,)), (plans.SINGLES_150, 7, LISTED)), 36)
+    no_bits(cases)
+    stream_grounds(cases)
+    stream_runs(cases, (1, 4) if small else (1, 2, 3, 4, 7, 31, 32), () if small else (1, 2, 4))
+    any_states(cases, (1, 31) if small else (1, 2, 3, 4, 7, 16, 31, 32))
+    runs(cases, (1, 3, 4) if small else range(1, 33), (2,) if small else (1, 2, 3, 4, 7, 31, 32),
+         (1, 4) if small else (1, 2, 4, 7), 5 if small else 140)
     check_reached(cases)
     check_page()
     check_rows()

@@ -1,5 +1,5 @@
 #!/usr/bin/env python3
-"""A second model of the pilot lamp, written from the scope paper and requests 01, 10 and 11 alone.
+"""A second model of the pilot lamp, written from the scope paper and requests 01 and 10 alone.
 
 It knows the continuous pilots of an accepted plan, the lamp's record and its step, the lights of
 a record, grounds 28 and 17 after the plan's own, and the two calls for C over bytes, with ground
@@ -10,8 +10,8 @@ the record, stand the lights worked out afresh from the list of all symbols hear
 
 holds the model against what the request says: over random lists of symbols, with lost marks and
 refused symbols among them, the lights of the record are those worked out afresh, and the record
-is what can be counted in the list; then what is worked out by hand of Plan A and Plan B, the
-grounds in their order, and the calls.
+is what can be counted in the list; then what is worked out by hand of Plan A, the grounds in
+their order, and the calls.
 
     python3 tests/lamp.py FILE < SYMBOLS
 
@@ -22,19 +22,20 @@ import random
 import sys
 from array import array
 from collections import Counter
-from dataclasses import asdict, dataclass
+from dataclasses import dataclass
 from pathlib import Path
 from typing import NamedTuple
 
 sys.dont_write_bytecode = True
 
 import plans
-from model import KHZ25, Limits, Model
+from model import Limits, Model
 
 MOST = 128              # an accepted plan has 8 pilots and at most 120 further ones
 ANSWER = 16             # bytes of an answer
 LIGHTS = 128            # bytes of the lights of a call ...
 LIST = 256              # ... and of its list of pilots, two for each
+SYMBOL = 8192           # bytes of a symbol
 MARK = 0x8003
 NEARLY = (0x8002, 0x8004, 0x0003, 0x0380, 0)        # cells that are nearly the mark
 
@@ -47,17 +48,11 @@ class LampLimits(Limits):
     continuous_mark: int = MARK
 
 
-LAMP_50 = LampLimits()
-LAMP_25 = LampLimits(**asdict(KHZ25), cells=8192)
-
-
 class Lamp(Model):
     lamp_order = (28, 17)
 
-    def __init__(self, khz50=LAMP_50, khz25=LAMP_25):
-        super().__init__(khz50, khz25)
-        self.cap = khz50.cap        # this and the mark are the same for both devices
-        self.mark = khz50.continuous_mark
+    def __init__(self, limits=LampLimits()):
+        super().__init__(limits)
         self.known = {}             # of each plan its pilots, or its refusal
 
     # --- the pilots --------------------------------------------------------
@@ -65,7 +60,7 @@ class Lamp(Model):
     def pilots_of(self, p):
         """Every subcarrier whose role is continuous, in rising order.  That role is the same
         at every phase."""
-        return [k for k in range(p.limits.last_subcarrier + 1)
+        return [k for k in range(self.limits.last_subcarrier + 1)
                 if self.role_of(p, k, 0) == 'continuous']
 
     def plan_pilots(self, plan):
@@ -78,10 +73,10 @@ class Lamp(Model):
     # --- the record --------------------------------------------------------
 
     def raised(self, count):
-        return min(self.cap, count + 1)
+        return min(self.limits.cap, count + 1)
 
     def is_mark(self, cell):
-        return cell == self.mark
+        return cell == self.limits.continuous_mark
 
     def holds(self, symbol, k):
         """Does the cell of subcarrier k hold the mark?"""
@@ -118,13 +113,13 @@ class Lamp(Model):
         return len(record) != len(pilots) + 1
 
     def wrong_count(self, record):
-        return any(count > self.cap or count > record[0] for count in record)
+        return any(count > self.limits.cap or count > record[0] for count in record)
 
-    def ground_28(self, x, pilots, symbol, record):
+    def ground_28(self, pilots, symbol, record):
         return 0 if self.wrong_length(pilots, record) or self.wrong_count(record) else None
 
-    def ground_17(self, x, pilots, symbol, record):
-        return 0 if len(symbol) != x.cells else None
+    def ground_17(self, pilots, symbol, record):
+        return 0 if len(symbol) != self.limits.cells else None
 
     def refusal(self, plan, symbol, record):
         """('refused', number, place) by the first ground that holds, or None: the plan's own,
@@ -133,7 +128,7 @@ class Lamp(Model):
         if isinstance(pilots, tuple):
             return pilots
         for ground in self.lamp_order:
-            place = getattr(self, 'ground_%d' % ground)(self.device(plan), pilots, symbol, record)
+            place = getattr(self, 'ground_%d' % ground)(pilots, symbol, record)
             if place is not None:
                 return ('refused', ground, place)
         return None
@@ -262,11 +257,10 @@ def lamp_call(plan, symbol, record, lights, answer):
 ONE_WORD = 'one word is expected, the name of a file with a plan, as in: lampcheck my.plan'
 NO_PLAN = 'the file of the plan cannot be read'
 NO_INPUT = 'standard input cannot be read'
-NO_SYMBOL = 'no symbol on standard input, %d bytes each'
-WITHIN = 'the input ends within a symbol, which has %d bytes'
+NO_SYMBOL = 'no symbol on standard input, 8192 bytes each'
+WITHIN = 'the input ends within a symbol, which has 8192 bytes'
 NO_OUTPUT = 'standard output cannot be written'
-BYTES = (8192, 16384)       # of a symbol, of either device
-TOLD = (ONE_WORD, NO_PLAN, NO_INPUT, *(told % size for told in (NO_SYMBOL, WITHIN) for size in BYTES), NO_OUTPUT)
+TOLD = (ONE_WORD, NO_PLAN, NO_INPUT, NO_SYMBOL, WITHIN, NO_OUTPUT)
 
 
 def line_of(pilots, lights):
@@ -280,19 +274,13 @@ def lampcheck(plan, given, model=MODEL):
     pilots = model.plan_pilots(plan)
     if isinstance(pilots, tuple):
         return ['refused %d %d' % pilots[1:]], None
-    size = symbol_bytes(plan, model)
     if len(given) == 0:
-        return [], NO_SYMBOL % size
+        return [], NO_SYMBOL
     record, lines = [0] * (len(pilots) + 1), []
-    for at in range(0, len(given) - size + 1, size):
-        _, lights = model.lamp(plan, cells_of(given[at:at + size]), record)
+    for at in range(0, len(given) - SYMBOL + 1, SYMBOL):
+        _, lights = model.lamp(plan, cells_of(given[at:at + SYMBOL]), record)
         lines.append(line_of(pilots, lights))
-    return lines, WITHIN % size if len(given) % size else None
-
-
-def symbol_bytes(plan, model=MODEL):
-    """The bytes of a symbol under a plan."""
-    return 2 * model.device(plan).cells
+    return lines, WITHIN if len(given) % SYMBOL else None
 
 
 # --- what the papers say -----------------------------------------------------
@@ -305,13 +293,6 @@ FIFTEEN = [810, 900, 925, 930, 937, 948, 950, 957, 994, 1000, 1003, 1014, 1026, 
 PLAN_15 = plans.near_a(pilots=FURTHER)
 # 128 pilots: 200, 210 up to 1390, named from the last on, and 1953, 1965 up to 2054.
 PLAN_128 = plans.full(pilots=plans.pilots_of_full(120)[::-1])
-# The same of Plan B and the 25 kHz device.
-EIGHT_25 = [1850, 1874, 1896, 1914, 1989, 2007, 2029, 2053]
-FURTHER_25 = [2400, 1620, 2000, 1860, 2200, 1800, 1900]
-FIFTEEN_25 = [1620, 1800, 1850, 1860, 1874, 1896, 1900, 1914, 1989, 2000, 2007, 2029, 2053, 2200, 2400]
-PLAN_15_25 = plans.near_plan_b(pilots=FURTHER_25)
-# 400, 420 up to 2780, named from the last on, and 3906, 3930 up to 4109.
-PLAN_128_25 = plans.full_25(pilots=plans.pilots_of_full_25(120)[::-1])
 
 
 def check_pilots():
@@ -325,28 +306,22 @@ def check_pilots():
     assert model.pilots(PLAN_128) == (('count', 128), [*range(200, 1400, 10), *eight])
     assert model.pilots(plans.PLAN_A) == (('count', 8), EIGHT + [0] * 120)
     assert model.pilots(b'') == (('refused', 1, 0), [0] * 128)
-    assert model.plan_pilots(plans.PLAN_B) == EIGHT_25
-    assert model.plan_pilots(PLAN_15_25) == FIFTEEN_25
-    eight = [3906, 3930, 3952, 3970, 4045, 4063, 4085, 4109]
-    assert model.plan_pilots(plans.LARGEST_25) == [*range(400, 1200, 20), *eight]
-    assert model.pilots(PLAN_128_25) == (('count', 128), [*range(400, 2800, 20), *eight])
     accepted = 0
-    for name, data, want in plans.all_cases() + plans.all_cases_25():
+    for name, data, want in plans.all_cases():
         found = model.plan_pilots(data)
         if want.startswith('refused'):
             assert 'refused %d %d' % found[1:] == want, name
             continue
         further = [r.first for _, r in model.chain(data) if r.kind == 3]
-        p = model.judge(data)
-        assert found == sorted(set(model.predefined(p.limits, p.l) + further)), name
+        assert found == sorted(set(model.predefined(model.judge(data).l) + further)), name
         assert 8 <= len(found) == 8 + len(further) <= 128, name
         accepted += 1
     return accepted
 
 
-def marked(pilots, lost=(), other=0, cells=4096):
+def marked(pilots, lost=(), other=0):
     """A symbol with the mark in the cells of the pilots, but for those that lost it."""
-    cells = array('H', [other]) * cells
+    cells = array('H', [other]) * 4096
     for k in pilots:
         cells[k] = MARK if k not in lost else other
     return cells
@@ -373,28 +348,6 @@ def check_by_hand():
     hear((), [128] * 9, [1] * 8)
     hear(EIGHT, [128] + [0] * 8, [0] * 8)
     hear((), [128] + [1] * 8, [0] * 8)
-
-
-def check_by_hand_25():
-    """Plan B: one mark lost, and lit again with the 128th symbol after it."""
-    model, record = Lamp(), [0] * 9
-    for t in range(131):
-        lost = (1989,) if t == 1 else ()
-        answer, lights = model.lamp(plans.PLAN_B, marked(EIGHT_25, lost, cells=8192), record)
-        assert answer == ('count', 8) and record[0] == min(t + 1, 128)
-        assert record[5] == (1 if t == 0 else min(t - 1, 128))
-        assert lights == [1] * 4 + [int(t == 0 or t >= 129)] + [1] * 3 + [0] * 120
-
-
-def check_grounds_25():
-    """The symbol has the cells of the plan's device."""
-    model, small, large = Lamp(), marked(EIGHT), marked(EIGHT_25, cells=8192)
-    for plan, symbol, want in ((plans.PLAN_A, small, None), (plans.PLAN_A, large, 17), (plans.PLAN_B, large, None),
-                               (plans.PLAN_B, small, 17), (plans.PLAN_B, large[1:], 17), (plans.PLAN_B, large + large[:1], 17)):
-        answer, _ = model.lamp(plan, symbol, [0] * 9)
-        assert answer == (('count', 8) if want is None else ('refused', want, 0))
-        assert model.lamp(plan, symbol, [0] * 8)[0] == ('refused', 28, 0)
-    assert model.lamp(plans.kind(plans.PLAN_B, 0, 1), large, [])[0] == ('refused', 4, 2)
 
 
 def check_grounds():
@@ -440,15 +393,15 @@ def check_cells():
 
 # --- random lists of symbols --------------------------------------------------
 
-def some_symbols(rng, pilots, count, size):
+def some_symbols(rng, pilots, count):
     """Symbols in which marks are lost at random: by most pilots hardly ever, by some often, by all
     for a while.  The other cells hold anything, the mark among it."""
-    cells = array('H', rng.randbytes(2 * size))
+    cells = array('H', rng.randbytes(8192))
     often = {k: rng.choice((0, 0, 0.004, 0.02, 0.5)) for k in pilots}
     until = -1
     for t in range(count):
         cells = array('H', cells)
-        cells[rng.randrange(size)] = MARK
+        cells[rng.randrange(4096)] = MARK
         if rng.random() < 0.004:
             until = t + rng.randrange(3)
         for k in pilots:
@@ -459,7 +412,7 @@ def some_symbols(rng, pilots, count, size):
 def refuse_some(rng, model, plan, symbol, record):
     """Steps that are refused and change nothing, some of several; answers how many."""
     before = list(record)
-    steps = (((17, 0), plan, symbol[:-1], record), ((17, 0), plan, symbol + symbol[:1], record),
+    steps = (((17, 0), plan, symbol[:4095], record), ((17, 0), plan, symbol + symbol[:1], record),
              ((28, 0), plan, symbol, record[1:]), ((28, 0), plan, symbol[1:], record + [0]),
              ((28, 0), plan, symbol, [129, *record[1:]]), ((1, 0), plan[1:], symbol, record))
     tried = rng.sample(steps, rng.choice((0, 0, 0, 1, 2)))
@@ -475,7 +428,7 @@ def check_run(rng, plan, count, counts):
     pilots = model.plan_pilots(plan)
     record, heard, before = [0] * (len(pilots) + 1), [], [0] * MOST
     assert lights_afresh(pilots, heard) == model.lights_of(record) == [0] * len(pilots)
-    for symbol in some_symbols(rng, pilots, count, model.device(plan).cells):
+    for symbol in some_symbols(rng, pilots, count):
         counts['refused'] += refuse_some(rng, model, plan, symbol, record)
         answer, lights = model.lamp(plan, symbol, record)
         heard.append(symbol)
@@ -492,8 +445,7 @@ def check_runs():
     """Answers what happened in all runs."""
     rng, counts = random.Random(10), Counter()
     for plan, lengths in ((plans.PLAN_A, (1, 2, 127, 128, 129, 300, 300)), (PLAN_15, (127, 128, 129, 300)),
-                          (plans.LARGEST, (129, 300)), (PLAN_128, (129, 300)), (plans.PLAN_B, (1, 128, 300)),
-                          (PLAN_15_25, (129,)), (PLAN_128_25, (129,))):
+                          (plans.LARGEST, (129, 300)), (PLAN_128, (129, 300))):
         for count in lengths:
             check_run(rng, plan, count, counts)
     assert counts['again'] > 0
@@ -539,18 +491,10 @@ def check_lines():
     assert lampcheck(a, all_lit * 2) == (['all lit'] * 2, None)
     assert lampcheck(a, all_lit + one + all_lit) == (['all lit'] + ['dark 925 1003'] * 2, None)
     assert lampcheck(a, one + all_lit * 128) == (['dark 925 1003'] * 128 + ['all lit'], None)
-    assert lampcheck(a, all_lit + one[1:]) == (['all lit'], WITHIN % 8192)
-    assert lampcheck(a, b'\0') == ([], WITHIN % 8192)
-    assert lampcheck(a, b'') == ([], NO_SYMBOL % 8192)
+    assert lampcheck(a, all_lit + one[1:]) == (['all lit'], WITHIN)
+    assert lampcheck(a, b'\0') == ([], WITHIN)
+    assert lampcheck(a, b'') == ([], NO_SYMBOL)
     assert lampcheck(b'', b'') == lampcheck(b'', all_lit + b'\0') == (['refused 1 0'], None)
-
-
-def check_lines_25():
-    b, one = plans.PLAN_B, bytes_of(marked(EIGHT_25, (1850, 2029), cells=8192))
-    all_lit = bytes_of(marked(EIGHT_25, cells=8192))
-    assert lampcheck(b, all_lit + one + all_lit) == (['all lit'] + ['dark 1850 2029'] * 2, None)
-    assert lampcheck(b, all_lit + one[:8192]) == (['all lit'], WITHIN % 16384)
-    assert lampcheck(b, b'') == ([], NO_SYMBOL % 16384)
 
 
 def main():
@@ -561,13 +505,10 @@ def main():
         return
     accepted = check_pilots()
     check_by_hand()
-    check_by_hand_25()
     check_grounds()
-    check_grounds_25()
     check_cells()
     check_calls()
     check_lines()
-    check_lines_25()
     counts = check_runs()
     print('the lamp: %d plans with 8 to 128 pilots; %d runs from a fresh record, %d symbols heard, %d steps refused, %d times '
           'a pilot went dark and %d times it was lit again: lights and record as worked out afresh'

@@ -9,7 +9,7 @@
 
 stdin of lampcases holds cases one after the other.  Every number is four bytes, high byte first:
 
-    the plan's length P, the record's length R, the cells of the symbol C, from 0 to 8,193, the
+    the plan's length P, the record's length R, the cells of the symbol C, from 0 to 4,097, the
     number of symbols T, the fill F, the number of changes N; then the plan, the record, and N
     changes of three numbers each, t, k and v
 
@@ -30,7 +30,6 @@ lampcheck is run on symbols as an emitter sends them, some of whose cells are th
 
 import random
 import sys
-from dataclasses import replace
 from functools import lru_cache
 from itertools import chain
 from typing import NamedTuple, Optional
@@ -40,21 +39,18 @@ sys.dont_write_bytecode = True
 import lamp
 import stored
 from emitter import Emitter
-from lamp import (EIGHT, EIGHT_25, FIFTEEN, FIFTEEN_25, LAMP_25, LAMP_50, MARK, MOST, NEARLY, PLAN_128, PLAN_128_25, PLAN_15,
-                  PLAN_15_25, Lamp, LampLimits)
-from make_plans import all_plans, all_plans_25
+from lamp import EIGHT, FIFTEEN, MARK, MOST, NEARLY, PLAN_128, PLAN_15, Lamp, LampLimits
+from make_plans import all_plans
 from mutants import off_chain
-from plans import (LARGEST, LARGEST_25, PLAN_A, PLAN_B, entries, full, full_25, kind, near_a, near_plan_b, next_index, outside,
-                   outside_25, pilots_of_full, plan, plan_25, record, spread)
+from plans import LARGEST, PLAN_A, entries, full, near_a, next_index, outside, pilots_of_full, plan, record, spread
 from stored import mix_cells
 
 MOST_BYTES = 300000
-MOST_CASES = 350
+MOST_CASES = 250
 MOST_SYMBOLS = 400
 MOST_CHANGES = 2048
 MOST_RECORD = 256
 CELLS = 4096
-CELLS_25 = 8192
 LENGTHS = (1, 2, 127, 128, 129, 300)
 
 
@@ -69,11 +65,8 @@ class Case(NamedTuple):
     want: Optional[str]         # the line without its checksum, worked out by hand, or None
 
 
-def run(name, data, want, symbols=1, changes=(), record=None, cells=None, fill=MARK):
-    """Without a record it is fresh, and fits the plan; that of a refused step has nine counts.  Without
-    a number of cells the symbol has those of the plan's device."""
-    if cells is None:
-        cells = CELLS_25 if data[:1] == b'\4' else CELLS
+def run(name, data, want, symbols=1, changes=(), record=None, cells=CELLS, fill=MARK):
+    """Without a record it is fresh, and fits the plan; that of a refused step has nine counts."""
     if record is None:
         n = int(want.split()[-1]) if want.startswith('lit') else 8
         record = [0] * (n + 1)
@@ -370,86 +363,6 @@ def at_random():
     return cases
 
 
-# --- the 25 kHz device ---------------------------------------------------------
-
-def plan_b():
-    """Runs under Plan B: each pilot alone, a mark that is lost and found, and cells that are no pilot's."""
-    cases = [run('plan B, all held, %d symbols' % count, PLAN_B, lit(8), count) for count in (1, 129)]
-    cases += [run('plan B, only %d lost' % k, PLAN_B, lit(7), 2, lost(k, 0)) for k in EIGHT_25]
-    cases += [run('plan B, only %d held' % k, PLAN_B, lit(1), 2, [(0, k, MARK)], fill=0) for k in EIGHT_25]
-    cases += [run('plan B, 2053 lost at 10, %d more' % more, PLAN_B, lit(l), 11 + more, lost(2053, 10, 11))
-              for more, l in ((127, 7), (128, 8))]
-    once = list(chain(*(lost(k, i, i + 1) for i, k in enumerate(EIGHT_25))))
-    cases += [run('plan B, each lost once, %d symbols' % count, PLAN_B, lit(l), count, once) for count, l in ((8, 0), (132, 4))]
-    beside = sorted({k + side for k in EIGHT_25 for side in (-1, 1)})
-    # the PLC, what is half or twice a pilot or a pilot in fewer bits, and where the other device has its pilots
-    far = sorted({*range(1944, 1960), *(k // 2 for k in EIGHT_25), *(2 * k for k in EIGHT_25), *(k + 4096 for k in EIGHT_25),
-                  *(k - 1024 for k in EIGHT_25), 1897, 1909, 1920, 1929, 1966, 1975, 1986, 1998, 0, 4095, 4096, 8191})
-    marks = [(0, k, MARK) for k in EIGHT_25]
-    return cases + [
-        run('plan B, neighbours lost', PLAN_B, lit(8), 2, [(1, k, 0) for k in beside]),
-        run('plan B, only neighbours held', PLAN_B, lit(0), 2, [(0, k, MARK) for k in beside], fill=0),
-        run('plan B, others lost', PLAN_B, lit(8), 2, [(1, k, 0) for k in far]),
-        run('plan B, only others held', PLAN_B, lit(0), 2, [(0, k, MARK) for k in far], fill=0),
-        run('plan B, only the pilots held', PLAN_B, lit(8), 2, marks, fill=0x8004),
-        run('plan B, a change of cell 8192', PLAN_B, lit(8), 2, lost(8192, 0)),
-    ]
-
-
-def refused_25():
-    """Grounds 28 and 17 with the cells of either device, after the plan's own."""
-    cases = [run('plan B, %d cells' % cells, PLAN_B, 'refused 17 0', 2, cells=cells) for cells in (0, 4095, 4096, 4097, 8191, 8193)]
-    cases += [run('plan A, %d cells' % cells, PLAN_A, 'refused 17 0', 2, cells=cells) for cells in (8191, 8192, 8193)]
-    for name, cells in (('one byte short', 8192), ('one byte long', 4096), ('all 129', 8193), ('empty', 0),
-                        ('one above the first at the last pilot', 8192)):
-        cases.append(run('plan B, record: %s, %d cells' % (name, cells), PLAN_B, 'refused 28 0', 1,
-                         record=WRONG_RECORDS[name], cells=cells))
-    given = (([0] * 9, CELLS_25), ([], 0), ([129] * 9, CELLS_25), ([0] * 9, CELLS))
-    for n, (name, data, want, _) in enumerate(all_plans_25()):
-        if want.startswith('refused') and not name.startswith('plan-b-'):
-            counts, cells = given[n % 4]
-            cases.append(run('%s, %d counts, %d cells' % (name, len(counts), cells), data, want, 1, record=counts, cells=cells))
-    return cases + [run('plan B with kind 1', kind(PLAN_B, 0, 1), 'refused 4 2', cells=CELLS_25),
-                    run('25 kHz, first 12 bytes', PLAN_B[:12], 'refused 1 0'),
-                    run('25 kHz, chain past its end', next_index(PLAN_B, 1, 3), 'refused 3 1')]
-
-
-def other_plans_25():
-    """Further pilots not named in rising order, at both ends, above 4095, beside the PLC and off the chain; 48 and
-    128 pilots."""
-    once = list(chain(*(lost(k, i, i + 1) for i, k in enumerate(FIFTEEN_25))))
-    items = entries(1944, 4, outside_25(1600, 2481), [1800], head=4)
-    high = full_25(pilots=[7896, 4096, 4095, 296] + [5000 + 20 * n for n in range(36)])
-    cases = [run('25 kHz, 15 pilots, each lost once', PLAN_15_25, lit(0, 15), 15, once),
-             run('25 kHz, 15 pilots, each lost once, 136 symbols', PLAN_15_25, lit(8, 15), 136, once),
-             run('25 kHz, 15 pilots, the predefined lost', PLAN_15_25, lit(7, 15), 1, [(0, k, 0) for k in EIGHT_25]),
-             run('25 kHz, 15 pilots, 90 heard', PLAN_15_25, lit(9, 15), 1, record=SOME_15),
-             run('25 kHz, 15 pilots, a record of 8', PLAN_15_25, 'refused 28 0', 1, record=[0] * 9)]
-    for name, data, n, pilots, none in (
-            ('both ends', near_plan_b(pilots=[2481, 1600]), 10, (1600, 2481), (1599, 2482)),
-            ('beside the PLC', near_plan_b(pilots=[1960, 1943]), 10, (1943, 1960), (1944, 1959)),
-            ('off the chain', spread(items, [0, 2, 4, 6], 9, record(3, 0, 1810, 0)), 9, (1800,), (1810,)),
-            ('off the chain, kind 1', spread(items, [0, 2, 4, 6], 9, record(1, 0, 972, 4)), 9, (1800, 1850), (925,)),
-            ('L 408', plan_25(408, 4, outside_25(296, 1177)), 8, (314, 517), (313, 518)),
-            ('L 7769', plan_25(7769, 4, outside_25(7015, 7896)), 8, (7675, 7878), (7674, 7879)),
-            ('above 4095', high, 48, (296, 4095, 4096, 7896), (0, 3800, 4097, 7895))):
-        some = [(0, k, 0) for k in pilots]
-        cases.append(run('25 kHz, %s, pilots lost' % name, data, lit(n - len(pilots), n), 1, some))
-        cases.append(run('25 kHz, %s, others lost' % name, data, lit(n, n), 1, [(0, k, 0) for k in none]))
-    return cases + [
-        run('25 kHz, 48 pilots, the last lost', LARGEST_25, lit(47, 48), 1, lost(4109, 0)),
-        run('25 kHz, 128 pilots, none held', PLAN_128_25, lit(0, 128), 1, fill=0x8004),
-        run('25 kHz, 128 pilots, only the first and the last held', PLAN_128_25, lit(2, 128), 1,
-            [(0, k, MARK) for k in (400, 4109)], fill=0),
-        run('25 kHz, 128 pilots, set one by one', PLAN_128_25, lit(4, 128), 131, [(i, 400 + 20 * i, MARK) for i in range(40)], fill=0),
-        run('25 kHz, 128 pilots, 128 counts', PLAN_128_25, 'refused 28 0', 1, record=[0] * 128),
-    ]
-
-
-def all_cases_25():
-    return [*plan_b(), *refused_25(), *other_plans_25()]
-
-
 def all_cases():
     return [*lengths(), *lit_again(), *several(), *one_pilot(), *nearly(), *others(), *changes(), *started(), *wrong_records(),
             *wrong_symbols(), *refused_plans(), *fifteen(), *placed(), *many(), *at_random()]
@@ -498,8 +411,8 @@ def check_case(case, line):
     """The line against what was worked out by hand and, from a fresh record on, against the lights
     worked out afresh; and the limits of the program."""
     assert case.want is None or line.startswith(case.want + ' '), '%s: by hand %s, model %s' % (case.name, case.want, line)
-    assert len(case.record) <= MOST_RECORD and case.cells <= CELLS_25 + 1 and len(case.changes) <= MOST_CHANGES, case.name
-    assert 1 <= case.symbols <= MOST_SYMBOLS and all(k <= CELLS_25 and cell < 65536 for _, k, cell in case.changes), case.name
+    assert len(case.record) <= MOST_RECORD and case.cells <= CELLS + 1 and len(case.changes) <= MOST_CHANGES, case.name
+    assert 1 <= case.symbols <= MOST_SYMBOLS and all(k <= CELLS and cell < 65536 for _, k, cell in case.changes), case.name
     if line.startswith('lit') and not any(case.record):
         pilots = lamp.MODEL.plan_pilots(case.plan)
         heard = [list(symbol) for symbol in symbols_of(case)]
@@ -508,7 +421,7 @@ def check_case(case, line):
 
 def make():
     """The cases, their lines, and the bytes of stdin and stdout."""
-    cases, model = all_cases() + all_cases_25(), Lamp()
+    cases, model = all_cases(), Lamp()
     assert len({case.name for case in cases}) == len(cases) <= MOST_CASES
     lines = [line_of(model, case) for case in cases]
     for case, line in zip(cases, lines):
@@ -568,8 +481,7 @@ EQUIVALENT = {
     'lit: with nothing heard': 'Lights are given after a step only, and the first count is then 1 or more.',
     'lit: count at least the first': 'Ground 28 lets no count above the first, and a step raises none more than it.',
     '28: only the first tried against 128': 'A count that is not above the first is then not above 128 either.',
-    **{device + name: 'A continuous pilot is one at every phase.' for device in ('', '25 kHz: ')
-       for name in ('pilots: at phase 64', "the lamp's pilots: at phase 64")},
+    **dict.fromkeys(('pilots: at phase 64', "the lamp's pilots: at phase 64"), 'A continuous pilot is one at every phase.'),
 }
 
 
@@ -817,35 +729,28 @@ def said_mutants():
 
 
 def order_mutants():
-    """Another order."""
+    """Another order, and other lengths that ground 17 asks for."""
     for name, order in (('17 before 28', (17, 28)), ('28 not tried', (17,)), ('17 not tried', (28,)), ('neither tried', ())):
         yield name, bent(lamp_order=order)
     first = {
         '28 before the plan: an empty record': (28, lambda s, c: not c),
         '28 before the plan: a count above 128': (28, lambda s, c: any(x > 128 for x in c)),
         '28 before the plan: a count above the first': (28, lambda s, c: any(x > c[0] for x in c)),
-        '17 before the plan': (17, lambda s, c: len(s) not in (CELLS, CELLS_25)),
+        '17 before the plan': (17, lambda s, c: len(s) != CELLS),
     }
     for name, (number, test) in first.items():
         yield name, bent(refusal=lambda self, data, symbol, counts, number=number, test=test: (
             ('refused', number, 0) if test(symbol, counts) else Total.refusal(self, data, symbol, counts)))
-
-
-def symbol_mutants():
-    """Ground 17 asks for another length; m is the right one."""
     lengths = {
-        'one less allowed': lambda n, m: n not in (m - 1, m), 'one more allowed': lambda n, m: n not in (m, m + 1),
-        '0 allowed': lambda n, m: n not in (0, m), 'longer allowed': lambda n, m: n < m,
-        'shorter allowed': lambda n, m: n > m, 'the right one refused': lambda n, m: n == m,
-        'both allowed': lambda n, m: n not in (4096, 8192), 'that of the other device': lambda n, m: n != 12288 - m,
-        '4096 asked for': lambda n, m: n != 4096, '8192 asked for': lambda n, m: n != 8192,
+        '4095 allowed': lambda n: n not in (4095, 4096), '4097 allowed': lambda n: n not in (4096, 4097),
+        '0 allowed': lambda n: n not in (0, 4096), 'longer allowed': lambda n: n < 4096,
+        'shorter allowed': lambda n: n > 4096, '4096 refused': lambda n: n == 4096,
+        'up to the last pilot of Plan A': lambda n: n < 1027,
     }
     for name, wrong in lengths.items():
-        yield '17: ' + name, bent(ground_17=lambda self, x, pilots, s, c, wrong=wrong: 0 if wrong(len(s), x.cells) else None)
-    yield '17: up to the last pilot of Plan A', bent(ground_17=lambda self, x, pilots, s, c: 0 if len(s) < 1027 else None)
-    for by in (-1, 1):
-        yield 'limit cells moved by %d' % by, Total(replace(LAMP_50, cells=CELLS + by))
-        yield '25 kHz: limit cells moved by %d' % by, Total(khz25=replace(LAMP_25, cells=CELLS_25 + by))
+        yield '17: ' + name, bent(ground_17=lambda self, pilots, s, c, wrong=wrong: 0 if wrong(len(s)) else None)
+    for cells in (4095, 4097):
+        yield 'limit cells 4096 -> %d' % cells, Total(LampLimits(cells=cells))
 
 
 # --- cells and pilots
@@ -877,7 +782,6 @@ def cell_mutants():
         'and one above': lambda at, k: at(k) and at(k + 1), 'and one below': lambda at, k: at(k) and at(k - 1),
         'ten bits': lambda at, k: at(k % 1024), 'half': lambda at, k: at(k // 2), 'bit 10 changed': lambda at, k: at(k ^ 1024),
         'one above from 1024 on': lambda at, k: at(k + (k > 1023)), 'from above': lambda at, k: at(4095 - k),
-        'twelve bits': lambda at, k: at(k % 4096), 'twice': lambda at, k: at(2 * k), 'one above from 4096 on': lambda at, k: at(k + (k > 4095)),
         'the mark not looked for': lambda at, k: True,
     }
     for name, cells in reads.items():
@@ -905,36 +809,33 @@ def further(p):
     return [k for _, k in p.pilots]
 
 
-def eight(self, p):
-    return self.predefined(p.limits, p.l)
-
-
 def rising(self, p):
-    return sorted(eight(self, p) + further(p))
+    return sorted(self.predefined(p.l) + further(p))
 
 
 def order_of_pilots():
     others = {
         'falling': lambda self, p: rising(self, p)[::-1],
-        'predefined, then along the chain': lambda self, p: eight(self, p) + further(p),
-        'along the chain, then predefined': lambda self, p: further(p) + eight(self, p),
-        'predefined, then further ones rising': lambda self, p: eight(self, p) + sorted(further(p)),
-        'further ones rising, then predefined': lambda self, p: sorted(further(p)) + eight(self, p),
+        'predefined, then along the chain': lambda self, p: self.predefined(p.l) + further(p),
+        'along the chain, then predefined': lambda self, p: further(p) + self.predefined(p.l),
+        'predefined, then further ones rising': lambda self, p: self.predefined(p.l) + sorted(further(p)),
+        'further ones rising, then predefined': lambda self, p: sorted(further(p)) + self.predefined(p.l),
     }
     for name, pilots_of in others.items():
         yield from finding(name, pilots_of)
 
 
 def pilot_mutants():
+    distances = (15, 24, 35, 47)
     others = {
-        'predefined only': lambda self, p: eight(self, p), 'kind 3 only': lambda self, p: sorted(further(p)),
-        'the PLC too': lambda self, p: sorted(rising(self, p) + [*range(p.l, p.l + p.limits.plc_width)]),
+        'predefined only': lambda self, p: self.predefined(p.l), 'kind 3 only': lambda self, p: sorted(further(p)),
+        'the PLC too': lambda self, p: sorted(rising(self, p) + [*range(p.l, p.l + 8)]),
         'the lowest PLC subcarrier too': lambda self, p: sorted(rising(self, p) + [p.l]),
         'scattered at phase 0 too': lambda self, p: sorted(rising(self, p) + self.scattered_of(p, 0)),
         'without the lowest': lambda self, p: rising(self, p)[1:],
         'without the highest': lambda self, p: rising(self, p)[:-1],
-        'without the first of the chain': lambda self, p: sorted(eight(self, p) + further(p)[1:]),
-        'without the last of the chain': lambda self, p: sorted(eight(self, p) + further(p)[:-1]),
+        'without the first of the chain': lambda self, p: sorted(self.predefined(p.l) + further(p)[1:]),
+        'without the last of the chain': lambda self, p: sorted(self.predefined(p.l) + further(p)[:-1]),
         'the first 127': lambda self, p: rising(self, p)[:127], 'the first 64': lambda self, p: rising(self, p)[:64],
         'the first 47': lambda self, p: rising(self, p)[:47],
         'below the PLC only': lambda self, p: [k for k in rising(self, p) if k < p.l],
@@ -942,11 +843,8 @@ def pilot_mutants():
         'one higher': lambda self, p: [k + 1 for k in rising(self, p)],
         'one lower': lambda self, p: [k - 1 for k in rising(self, p)],
         'predefined counted above from L': lambda self, p: sorted(
-            eight(self, p)[:4] + [k - p.limits.plc_width + 1 for k in eight(self, p)[4:]] + further(p)),
-        'predefined of the other device': lambda self, p: sorted(
-            self.predefined(self.khz25 if p.limits.cells == CELLS else self.khz50, p.l) + further(p)),
-        'below 4096': lambda self, p: [k for k in rising(self, p) if k < 4096],
-        'at phase 64': lambda self, p: [k for k in range(len(p.excluded)) if self.role_of(p, k, 64) == 'continuous'],
+            [p.l - d for d in distances] + [p.l + d for d in distances] + further(p)),
+        'at phase 64': lambda self, p: [k for k in range(CELLS) if self.role_of(p, k, 64) == 'continuous'],
     }
     for name, pilots_of in others.items():
         yield from finding(name, pilots_of)
@@ -975,17 +873,12 @@ def list_mutants():
 
 
 def try_mutants(cases, lines):
-    """Those of the 25 kHz device are tried on its cases alone."""
     mutants = chain([('nothing', bent())], count_mutants(), lost_mutants(), after_mutants(), lit_mutants(), answer_mutants(),
-                    refused_mutants(), length_mutants(), record_mutants(), said_mutants(), order_mutants(), symbol_mutants(),
-                    mark_mutants(), cell_mutants(), order_of_pilots(), pilot_mutants(), list_mutants(),
-                    (('25 kHz: ' + name, model) for of_device in (symbol_mutants, cell_mutants, order_of_pilots, pilot_mutants)
-                     for name, model in of_device() if not name.startswith(('limit', '25 kHz'))))
-    tried_on = {True: len(all_cases()), False: 0}
+                    refused_mutants(), length_mutants(), record_mutants(), said_mutants(), order_mutants(), mark_mutants(),
+                    cell_mutants(), order_of_pilots(), pilot_mutants(), list_mutants())
 
-    def change_of(name, model):
-        first = tried_on[name.startswith('25 kHz')]
-        return next((case.name for case, line in zip(cases[first:], lines[first:]) if line_of(model, case) != line), None)
+    def change_of(_, model):
+        return next((case.name for case, line in zip(cases, lines) if line_of(model, case) != line), None)
     return stored.try_mutants(mutants, change_of, EQUIVALENT, len(cases))
 
 

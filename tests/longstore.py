@@ -6,9 +6,8 @@
 The scope paper keeps M rows of N_I cells, and the row of the next step in the state.  From a fresh
 start the short store gives the same: the same steps, refused ones among them, send the same symbols
 and are answered alike, and the same arrivals are answered alike and hand out the same data.  That is
-compared here, over random plans of both devices and several depths, N_I a multiple of the depth and not,
-from phases before the wrap from 127 to 0.  Then each of the two models is bent in turn, and some run has
-to notice.
+compared here, over random plans of several depths, N_I a multiple of the depth and not, from phases
+before the wrap from 127 to 0.  Then each of the two models is bent in turn, and some run has to notice.
 """
 
 import random
@@ -18,11 +17,10 @@ from typing import NamedTuple
 sys.dont_write_bytecode = True
 
 import plans
-from emitter import Given, full, width
+from emitter import FULL, Given
 from receiver import Receiver
 
 DEPTHS = (1, 2, 3, 4, 7, 31, 32)
-DEPTHS_25 = (1, 3, 16)              # of the 25 kHz device, whose depth is at most 16
 SENDS = ('emit', 'emit', 'emit', 'flush', 'a cell too few', 'a cell too high', 'phase', 'symbol', 'store')
 ARRIVALS = ('sent', 'sent', 'sent', 'other data', 'a wrong mark', 'the symbol before', 'phase', 'heard',
             'symbol', 'store', 'buffer')
@@ -56,8 +54,8 @@ class Long(Receiver):
 
     def fresh_rows(self, at, phase):
         """Row 0 is filler; row M - r holds the symbol r steps back, without data."""
-        filler = [at.limits.filler_mark] * at.n
-        return [filler] + [self.input_symbol(at, (phase - r) % at.limits.phases, None)
+        filler = [self.limits.filler_mark] * at.n
+        return [filler] + [self.input_symbol(at, (phase - r) % self.limits.phases, None)
                            for r in range(at.m - 1, 0, -1)]
 
     def fresh(self, plan, phase, store):
@@ -70,30 +68,30 @@ class Long(Receiver):
         return ('fresh', phase, 0)
 
     def step(self, plan, phase, row, store, data, symbol):
-        refused = self.refusal(plan, Given(phase, store, data, symbol, profile=full(plan)))
+        refused = self.refusal(plan, Given(phase, store, data, symbol, profile=FULL))
         if refused:
             return (*refused, phase, row)
         at = self.layout(plan)
         self.write(at, row, store, self.input_symbol(at, phase, data))
         self.send(at, self.back(at, row, store, lambda p: self.delay(at, p)), symbol)
-        return ('sent', self.next_phase(at, phase), self.next_row(at, phase, row))
+        return ('sent', self.next_phase(phase), self.next_row(at, phase, row))
 
     def listen(self, plan, phase, store):
         refused = self.refusal(plan, Given(phase, store, end='receiver'))
         if refused:
             return refused
         at = self.layout(plan)
-        self.fill(store, [at.limits.filler_mark] * (at.m * at.n))
+        self.fill(store, [self.limits.filler_mark] * (at.m * at.n))
         return ('fresh', phase, 0, 0)
 
     def receive(self, plan, phase, row, heard, store, symbol, buffer):
         refused = self.refusal(plan, Given(phase, store, heard=heard, arriving=symbol, buffer=buffer,
-                                           end='receiver', profile=full(plan)))
+                                           end='receiver', profile=FULL))
         if refused:
             return (*refused, phase, row, heard)
         at = self.layout(plan)
         self.write(at, row, store, self.arriving_cells(at, symbol))
-        after = (self.next_phase(at, phase), self.next_row(at, phase, row), self.next_heard(at, heard))
+        after = (self.next_phase(phase), self.next_row(at, phase, row), self.next_heard(at, heard))
         if self.is_warming(at, heard):
             return ('warming', *after)
         cells = self.back(at, row, store, lambda p: at.m - 1 - self.delay(at, p))
@@ -113,22 +111,16 @@ class Run(NamedTuple):
     arrivals: list      # (kind, symbol)
 
 
-def some_plan(rng, m, divides, near=plans.near_a, active=range(800, 1241), clear=(56, 64)):
-    """A plan of this depth near Plan A, or near another, with N_I a multiple of it or not.  Clear are so many
-    subcarriers below L, and from L up."""
-    model, (below, above) = Receiver(), clear
+def some_plan(rng, m, divides):
+    """A plan of this depth near Plan A, with N_I a multiple of it or not."""
+    model = Receiver()
     while True:
-        low = rng.randrange(active[0] + below + 4, active[-1] - above)
-        pilots = rng.sample([k for k in active if not low - below <= k < low + above], rng.randrange(60))
-        plan = near(plans.singles(*rng.sample(active, rng.randrange(4))), pilots, L=low, M=m)
+        low = rng.randrange(860, 1176)
+        pilots = rng.sample([k for k in range(800, 1241) if not low - 56 <= k < low + 64], rng.randrange(60))
+        plan = plans.near_a(plans.singles(*rng.sample(range(800, 1241), rng.randrange(4))), pilots, L=low, M=m)
         at = model.layout(plan)
         if not isinstance(at, tuple) and (at.n % m == 0) == divides:
             return plan
-
-
-def some_plan_25(rng, m, divides):
-    """The same near Plan B, of the 25 kHz device."""
-    return some_plan(rng, m, divides, plans.near_plan_b, range(1600, 2482), (112, 128))
 
 
 def sends_of(rng, m, accepted):
@@ -152,7 +144,7 @@ def arrivals_of(rng, at, symbols):
                 if other[k] != 0x8000:
                     other[k] = rng.choice((0, 16383, 0x8001, rng.randrange(16384)))
         if kind == 'a wrong mark':
-            other[rng.randrange(len(other))] ^= 0x8004
+            other[rng.randrange(4096)] ^= 0x8004
         if kind == 'the symbol before':
             other = before
         if at.m > 1 or kind != 'store':
@@ -179,12 +171,6 @@ def some_runs():
                                some_plan(rng, m, divides), start, 2 * m + 6)
     yield some_run(rng, 'depth 3 over two wraps', plans.near_a(M=3), 120, 140)
     yield some_run(rng, 'largest', plans.LARGEST, 100, 40)
-    for m in DEPTHS_25:
-        for divides in (True,) if m == 1 else (True, False):
-            start = rng.randrange(126 - m, 128)
-            yield some_run(rng, '25 kHz, depth %d, a multiple of it: %s, phase %d' % (m, divides, start),
-                           some_plan_25(rng, m, divides), start, m + 6)
-    yield some_run(rng, '25 kHz, largest', plans.LARGEST_25, 120, 18)
 
 
 # --- what comes of it --------------------------------------------------------
@@ -199,7 +185,7 @@ def without_row(model, answer, numbers):
 
 def sent(model, plan, start, sends):
     """(answer, symbol) of each step from a fresh start."""
-    at, cells = model.layout(plan), width(plan)
+    at = model.layout(plan)
     numbers = 1 + isinstance(model, Long)
     store = [7] * model.places(at).length
     answer = model.fresh(plan, start, store)
@@ -209,7 +195,7 @@ def sent(model, plan, start, sends):
         data = [(seed + i * 48271) % 16384 for i in range(count - (kind == 'a cell too few'))]
         if kind == 'a cell too high':
             data[seed % count] = 16384
-        symbol = [9] * (cells - (kind == 'symbol'))
+        symbol = [9] * (4096 - (kind == 'symbol'))
         lent = store[:-1] if kind == 'store' else store
         given = (state[0] + 128, *state[1:]) if kind == 'phase' else state
         answer = model.step(plan, *given, lent, None if kind == 'flush' else data, symbol)
@@ -221,13 +207,13 @@ def sent(model, plan, start, sends):
 
 def received(model, plan, start, arrivals):
     """(answer, data buffer) of each receive step from a fresh start."""
-    at, cells = model.layout(plan), width(plan)
+    at = model.layout(plan)
     numbers = 2 + isinstance(model, Long)
     store = [7] * model.places(at, 'receiver').length
     answer = model.listen(plan, start, store)
     state, seen = answer[1:], [(without_row(model, answer, numbers), [])]
     for kind, symbol in arrivals:
-        buffer = [9] * (0 if kind == 'buffer' else cells)
+        buffer = [9] * (0 if kind == 'buffer' else 4096)
         given = list(state)
         given[0] += 128 * (kind == 'phase')
         given[-1] += at.m * (kind == 'heard')
@@ -291,7 +277,7 @@ def all_bent():
             self, at, (phase + 1) % 128)},
         'fresh places the newest first': {'fresh_places': lambda self, at, phase: [
             places[::-1] for places in Receiver.fresh_places(self, at, phase)]},
-        'the phase goes round at 127': {'next_phase': lambda self, at, phase: (phase + 1) % 127},
+        'the phase goes round at 127': {'next_phase': lambda self, phase: (phase + 1) % 127},
         'a refused step moves the store': {'step': refused_moves},
         'a warming step leaves the store': {'receive': warming_keeps},
     }

@@ -15,7 +15,6 @@ from pathlib import Path
 sys.dont_write_bytecode = True
 
 import plans
-from emitter import DEVICES, width
 from receiver import Receiver
 from stored import ROOT
 
@@ -45,13 +44,13 @@ class Link:
         count = self.model.count(self.at, phase)
         data = None if flush else [(4099 * t + 31 * i) % 16384 for i in range(count)]
         self.inputs.append(data)
-        symbol = [0] * width(self.plan)
+        symbol = [0] * 4096
         _, self.sender = self.model.step(self.plan, phase, self.sending, data, symbol)
         return phase, symbol
 
     def hear(self, symbol):
         """The answer, and the data handed out."""
-        data = [0] * width(self.plan)
+        data = [0] * 4096
         answer = self.model.receive(self.plan, *self.state, self.listening, symbol, data)
         self.state = answer[-2:]
         return answer, data[:answer[1]] if answer[0] == 'data' else None
@@ -61,7 +60,7 @@ class Link:
         taken.  Answers which cells those were, and the data."""
         mended = []
         answer, data = self.hear(symbol)
-        while answer[:2] == ('refused', 20) and len(mended) < width(self.plan):
+        while answer[:2] == ('refused', 20) and len(mended) < 4096:
             mended.append(answer[2])
             symbol[answer[2]] = self.mark(answer[2])
             answer, data = self.hear(symbol)
@@ -78,18 +77,10 @@ class Link:
         return sorted((marks.index(mark), 1 + i) for i, mark in enumerate(ROLES) if mark in marks)
 
 
-def lowest_plc(plan):
-    return int.from_bytes(plan[4:6], 'big')
-
-
 def symbol_phase(plan, symbol):
-    """The phase that the lowest scattered placeholder tells, None if there is none.  So far it stands above
-    the first subcarrier above the PLC, modulo 128; in steps of 2 the odd numbers come after the even ones."""
-    x = DEVICES.device(plan)
-    if 0x8000 not in symbol:
-        return None
-    above = (symbol.index(0x8000) - (lowest_plc(plan) + x.scattered_from)) % 128
-    return above // x.scattered_step + above % x.scattered_step * (128 // x.scattered_step)
+    """The phase that the lowest scattered placeholder tells, None if there is none."""
+    low = int.from_bytes(plan[4:6], 'big')
+    return next(((k - (low + 8)) % 128 for k, cell in enumerate(symbol) if cell == 0x8000), None)
 
 
 def spoil(symbol, subcarriers):
@@ -126,17 +117,15 @@ def check_unnoticed():
         wrong, answer, phase = wrong_after(model, plan, lost)
         assert wrong == (75 - lost if 64 <= lost <= 75 else 0), (lost, wrong)
         assert answer[1] == 20 and phase == (answer[3] + 1) % 128
-    for plan, step in ((plans.PLAN_A, 1), (plans.PLAN_B, 9)):       # of these, at once
-        for lost in range(0, 128, step):
-            wrong, answer, phase = wrong_after(model, plan, lost)
-            assert (wrong, answer[:2], answer[3], phase) == (0, ('refused', 20), lost, (lost + 1) % 128)
+    for lost in range(128):     # of Plan A, at once
+        wrong, answer, phase = wrong_after(model, plans.PLAN_A, lost)
+        assert (wrong, answer[:2], answer[3], phase) == (0, ('refused', 20), lost, (lost + 1) % 128)
 
 
-def check_128_lost(plan):
+def check_128_lost(m):
     """With 128 symbols lost in a row the phases agree again: nothing is ever refused, and the next
     M - 1 data symbols handed out are wrong."""
-    link, handed = Link(Receiver(), plan, 3), []
-    m = link.at.m
+    link, handed = Link(Receiver(), plans.near_a(M=m), 3), []
     for t in range(128 + 3 * m):
         _, symbol = link.send()
         if not m <= t < m + 128:
@@ -157,8 +146,8 @@ def check_restart(plan, start, lost, refused):
         phase, symbol = link.send()
         if t == lost:
             if refused:
-                spoil(symbol, [lowest_plc(plan)])
-                assert link.hear(symbol)[0][:3] == ('refused', 20, lowest_plc(plan))
+                spoil(symbol, [972])
+                assert link.hear(symbol)[0][:3] == ('refused', 20, 972)
             link.listen((link.state[0] + 1) % 128)
             continue
         assert phase == link.state[0]
@@ -171,15 +160,14 @@ def check_restart(plan, start, lost, refused):
 
 # --- a symbol that is refused by 20 -----------------------------------------
 
-def check_left_alone(plan):
+def check_left_alone(m):
     """Refused and left alone: the receiver stays at its phase, the next 127 symbols are refused, and the
     one after them is taken in the place of the lost one, and M - 1 wrong data symbols are handed out."""
-    link, answers, handed = Link(Receiver(), plan, 30), [], []
-    m = link.at.m
+    link, answers, handed = Link(Receiver(), plans.near_a(M=m), 30), [], []
     for t in range(m + 130 + 2 * m):
         _, symbol = link.send()
         if t == m + 1:
-            spoil(symbol, [lowest_plc(plan)])
+            spoil(symbol, [972])
         answer, data = link.hear(symbol)
         answers.append(answer[0])
         handed += [(t - m + 1, data)] if data else []
@@ -271,17 +259,14 @@ def main():
     if len(sys.argv) != 1:
         sys.exit(__doc__)
     check_unnoticed()
-    for plan in (*(plans.near_a(M=m) for m in (1, 3, 4, 32)), plans.near_plan_b(M=3)):
-        check_128_lost(plan)
-        check_left_alone(plan)
-        for refused in (False, True):
-            check_restart(plan, 120, plan[7] + 5, refused)
-        check_mended(plan, 126)
-    check_restart(plans.near_plan_b(M=16), 120, 18, True)
-    check_mended(plans.near_plan_b(M=16), 126)
+    for m in (1, 3, 4, 32):
+        check_128_lost(m)
+        check_left_alone(m)
+        check_restart(plans.near_a(M=m), 120, m + 5, False)
+        check_restart(plans.near_a(M=m), 120, m + 5, True)
+        check_mended(plans.near_a(M=m), 126)
     check_mended_after_loss()
-    for plan in (plans.PLAN_A, plans.near_a(M=1), (ROOT / NO_SCATTERED).read_bytes(), plans.SINGLES_150,
-                 plans.near_plan_b(M=1)):
+    for plan in (plans.PLAN_A, plans.near_a(M=1), (ROOT / NO_SCATTERED).read_bytes(), plans.SINGLES_150):
         check_phases(plan)
     check_page()
     print('lost and wrong symbols: nine wrong data symbols before the first refusal, as docs/C-HOST.md says')

@@ -1,12 +1,11 @@
 #!/usr/bin/env python3
-"""A second model of the plan rules, written from the papers alone: 01, and requests 02, 05, 08 and 11.
+"""A second model of the plan rules, written from the papers alone: 01, and requests 02, 05 and 08.
 
 It judges a plan (any bytes) by grounds 1 to 15, in checking order, knows the
 roles of the subcarriers, tries one more excluded range (change request 05) and
-gives the reason of a role (change request 08).  The rules are the same for both
-devices (change request 11); their numbers are those of the device that the plan's
-first byte names.  It is kept plain on purpose: it is compared with the head end's
-own program, so it must be easy to hold against the paper.
+gives the reason of a role (change request 08).  It is kept plain on purpose: it
+is compared with the head end's own program, so it must be easy to hold against
+the paper.
 
     python3 tests/model.py < plan
 
@@ -14,7 +13,7 @@ prints the line that plancheck prints.
 """
 
 import sys
-from dataclasses import dataclass, fields, replace
+from dataclasses import dataclass
 from itertools import accumulate, groupby
 from typing import NamedTuple
 
@@ -23,8 +22,7 @@ PHASES = 128        # a phase is 0 to 127
 
 @dataclass(frozen=True)
 class Limits:
-    """Every number of the plan rules of one device, so that a test can change one.  The
-    numbers here are those of the 50 kHz device."""
+    """Every number of the plan rules, so that a test can change one."""
     record_bytes: int = 8        # ground 1: the length is a multiple of this
     shortest: int = 8            # ground 1: bytes
     longest: int = 4096          # ground 1: bytes
@@ -54,27 +52,7 @@ class Limits:
     short_excluded: int = 4      # ground 14
     most_ranks: int = 3745       # ground 15
     scattered_from: int = 8      # scattered pilots are counted from L+8 ...
-    scattered_period: int = 128  # ... and stand 128 apart ...
-    scattered_step: int = 1      # ... this much higher with each phase
-
-
-KHZ50 = Limits()
-KHZ25 = Limits(
-    lowest_l=408, highest_l=7769, highest_m=16, last_subcarrier=8191, lowest_active=296, highest_active=7896,
-    clear_below=112, clear_above=127, distance_1=30, distance_2=48, distance_3=70, distance_4=94, plc_width=16,
-    exclusion_band=40, narrow=80, wide=880, long_window=240, long_excluded=12, short_window=40, short_excluded=8,
-    most_ranks=7537, scattered_from=16, scattered_step=2)
-
-
-def moved(khz50=KHZ50, khz25=KHZ25):
-    """Each number of either device moved by one, down and up: (what is moved, both devices)."""
-    for field in fields(khz50):
-        for by in (-1, 1):
-            low, high = getattr(khz50, field.name), getattr(khz25, field.name)
-            yield ('limit %s %d -> %d' % (field.name, low, low + by),
-                   (replace(khz50, **{field.name: low + by}), khz25))
-            yield ('25 kHz limit %s %d -> %d' % (field.name, high, high + by),
-                   (khz50, replace(khz25, **{field.name: high + by})))
+    scattered_step: int = 128    # ... in steps of 128
 
 
 class Record(NamedTuple):
@@ -88,8 +66,7 @@ class Record(NamedTuple):
 class Map:
     """What a chain of good records says."""
 
-    def __init__(self, limits, l, m, excluded, pilots):
-        self.limits = limits        # of the plan's device
+    def __init__(self, l, m, excluded, pilots):
         self.l = l                  # lowest PLC subcarrier
         self.m = m                  # depth
         self.excluded = excluded    # one byte for each subcarrier, 1 if excluded
@@ -106,67 +83,54 @@ class Model:
     record_order = (2, 3, 4, 5)
     map_order = (6, 7, 8, 9, 10, 11, 12, 13, 14, 15)
 
-    def __init__(self, khz50=KHZ50, khz25=KHZ25):
-        self.khz50 = khz50
-        self.khz25 = khz25
-
-    # --- the device --------------------------------------------------------
-    # Rules that are given no Map are given the limits of the device, x.
-
-    def device_of_kind(self, kind):
-        """Kind 4 in record 0 describes the 25 kHz device.  By any other kind, one that ground 2
-        refuses included, it is the 50 kHz device."""
-        return self.khz25 if kind == 4 else self.khz50
-
-    def device(self, data):
-        """The limits of the device of a plan: its first byte alone says which."""
-        return self.device_of_kind(data[0] if data else None)
+    def __init__(self, limits=Limits()):
+        self.limits = limits
 
     # --- reading -----------------------------------------------------------
 
     def read(self, data, i):
         """Record i.  Two-byte numbers have the high byte first."""
-        at = self.device(data).record_bytes * i
+        at = self.limits.record_bytes * i
         b = data[at:at + 8].ljust(8, b'\0')
         return Record(b[0], b[1], b[2] * 256 + b[3], b[4] * 256 + b[5],
                       b[6] * 256 + b[7])
 
-    def length_is_bad(self, x, length):
+    def length_is_bad(self, length):
         """Ground 1."""
+        x = self.limits
         return (length < x.shortest or length > x.longest
                 or length % x.record_bytes != 0)
 
     def chain(self, data):
         """The chain as a list of (index, record), or a refusal by 2 to 5."""
-        x = self.device(data)
-        number_of_records = len(data) // x.record_bytes
+        number_of_records = len(data) // self.limits.record_bytes
         chain = []
         i = 0
         while True:
             record = self.read(data, i)
             for ground in self.record_order:
-                if self.record_is_bad(x, ground, i, record, number_of_records, chain):
+                if self.record_is_bad(ground, i, record, number_of_records, chain):
                     return ('refused', ground, i)
             chain.append((i, record))
             if record.next == 0:
                 return chain
             i = record.next
 
-    def record_is_bad(self, x, ground, i, record, number_of_records, before):
+    def record_is_bad(self, ground, i, record, number_of_records, before):
         if ground == 2:
             return self.ground_2(i, record)
         if ground == 3:
             return self.ground_3(i, record, number_of_records)
         if ground == 4:
-            return self.ground_4(x, record)
-        return self.ground_5(x, record, before)
+            return self.ground_4(record)
+        return self.ground_5(record, before)
 
     def ground_2(self, i, r):
-        if r.kind < 1 or r.kind > 4:
+        if r.kind < 1 or r.kind > 3:
             return True
-        if i == 0 and r.kind not in (1, 4):
+        if i == 0 and r.kind != 1:
             return True
-        if i != 0 and r.kind in (1, 4):
+        if i != 0 and r.kind == 1:
             return True
         if r.byte1 != 0:
             return True
@@ -181,8 +145,9 @@ class Model:
             return True
         return False
 
-    def ground_4(self, x, r):
-        if r.kind in (1, 4):
+    def ground_4(self, r):
+        x = self.limits
+        if r.kind == 1:
             if r.first < x.lowest_l or r.first > x.highest_l:
                 return True
             if r.second < x.lowest_m or r.second > x.highest_m:
@@ -197,34 +162,34 @@ class Model:
                 return True
         return False
 
-    def ground_5(self, x, r, before):
+    def ground_5(self, r, before):
         if r.kind != 3:
             return False
         earlier = sum(1 for _, e in before if e.kind == 3)
-        return earlier >= x.pilot_records
+        return earlier >= self.limits.pilot_records
 
     def map_of(self, data, chain):
-        x = self.device(data)
         l, m = chain[0][1].first, chain[0][1].second
-        excluded = bytearray(x.last_subcarrier + 1)
+        excluded = bytearray(self.limits.last_subcarrier + 1)
         pilots = []
         for i, r in chain:
             if r.kind == 2:
                 excluded[r.first:r.second + 1] = b'\1' * (r.second + 1 - r.first)
             if r.kind == 3:
                 pilots.append((i, r.first))
-        return Map(x, l, m, excluded, pilots)
+        return Map(l, m, excluded, pilots)
 
     # --- the map -----------------------------------------------------------
 
-    def predefined(self, x, l):
+    def predefined(self, l):
         """The predefined continuous pilots, rising."""
+        x = self.limits
         distances = (x.distance_1, x.distance_2, x.distance_3, x.distance_4)
         top = l + x.plc_width - 1
         return sorted([l - d for d in distances] + [top + d for d in distances])
 
     def is_plc(self, p, k):
-        return p.l <= k <= p.l + p.limits.plc_width - 1
+        return p.l <= k <= p.l + self.limits.plc_width - 1
 
     def exclusion_bands(self, p):
         """(first, last) of every exclusion band, rising."""
@@ -232,14 +197,14 @@ class Model:
         k = 0
         for flag, run in groupby(p.excluded):
             length = len(list(run))
-            if flag and self.is_exclusion_band(p.limits, k, k + length - 1):
+            if flag and self.is_exclusion_band(k, k + length - 1):
                 found.append((k, k + length - 1))
             k += length
         return found
 
-    def is_exclusion_band(self, x, first, last):
-        return (last - first + 1 >= x.exclusion_band
-                or first == 0 or last == x.last_subcarrier)
+    def is_exclusion_band(self, first, last):
+        return (last - first + 1 >= self.limits.exclusion_band
+                or first == 0 or last == self.limits.last_subcarrier)
 
     def bands(self, p):
         """(a, b) of every band, rising."""
@@ -262,15 +227,14 @@ class Model:
     # Each of grounds 6 to 15 answers its place, or None if it does not hold.
 
     def ground_6(self, p):
-        x = p.limits
-        for first, end in ((0, x.lowest_active), (x.highest_active + 1, x.last_subcarrier + 1)):
-            active = p.excluded.find(0, first, end)
-            if active >= 0:
-                return active
+        x = self.limits
+        for k in range(x.last_subcarrier + 1):
+            if (k < x.lowest_active or k > x.highest_active) and not p.excluded[k]:
+                return k
         return None
 
     def ground_7(self, p):
-        x = p.limits
+        x = self.limits
         for k in range(p.l - x.clear_below, p.l + x.clear_above + 1):
             if p.excluded[k]:
                 return k
@@ -278,7 +242,7 @@ class Model:
 
     def ground_8(self, p):
         named = set()
-        predefined = self.predefined(p.limits, p.l)
+        predefined = self.predefined(p.l)
         for i, k in p.pilots:
             if p.excluded[k] or self.is_plc(p, k) or k in predefined or k in named:
                 return i
@@ -287,38 +251,38 @@ class Model:
 
     def ground_9(self, p):
         for a, b in self.bands(p):
-            if self.width(a, b) < p.limits.narrow:
+            if self.width(a, b) < self.limits.narrow:
                 return a
         return None
 
     def ground_10(self, p):
         for a, b in self.bands(p):
-            if self.width(a, b) >= p.limits.wide:
+            if self.width(a, b) >= self.limits.wide:
                 return None
         return 0
 
     def ground_11(self, p):
         lowest = p.excluded.find(0)
         highest = p.excluded.rfind(0)
-        if p.limits.times_span * p.count(lowest, highest) > self.width(lowest, highest):
+        if self.limits.times_span * p.count(lowest, highest) > self.width(lowest, highest):
             return 0
         return None
 
     def ground_12(self, p):
         # Inside a band every excluded subcarrier is individually excluded.
         for a, b in self.bands(p):
-            if p.limits.times_width * p.count(a, b) > self.width(a, b):
+            if self.limits.times_width * p.count(a, b) > self.width(a, b):
                 return a
         return None
 
     def ground_13(self, p):
-        return self.window(p, p.limits.long_window, p.limits.long_excluded)
+        return self.window(p, self.limits.long_window, self.limits.long_excluded)
 
     def ground_14(self, p):
-        return self.window(p, p.limits.short_window, p.limits.short_excluded)
+        return self.window(p, self.limits.short_window, self.limits.short_excluded)
 
     def ground_15(self, p):
-        if len(self.ranks_of(p)) > p.limits.most_ranks:
+        if len(self.ranks_of(p)) > self.limits.most_ranks:
             return 0
         return None
 
@@ -328,24 +292,17 @@ class Model:
         """The subcarriers of ranks 0, 1, ... : neither excluded, PLC nor
         continuous, in rising order."""
         taken = bytearray(p.excluded)
-        for k in range(p.l, p.l + p.limits.plc_width):
+        for k in range(p.l, p.l + self.limits.plc_width):
             taken[k] = 1
-        for k in self.predefined(p.limits, p.l):
+        for k in self.predefined(p.l):
             taken[k] = 1
         for _, k in p.pilots:
             taken[k] = 1
-        return [k for k, flag in enumerate(taken) if not flag]
-
-    def start(self, x, phase):
-        """How far above the first subcarrier above the PLC the grid of a phase starts: one step
-        further with each phase, and one more once it has gone round the period.  In steps of 1
-        that is the phase; in steps of 2 it is 2j below phase 64, and 2(j - 64) + 1 later."""
-        rounds, start = divmod(x.scattered_step * phase, x.scattered_period)
-        return start + rounds
+        return [k for k in range(len(taken)) if not taken[k]]
 
     def on_grid(self, p, k, phase):
-        x = p.limits
-        return (k - (p.l + x.scattered_from) - self.start(x, phase)) % x.scattered_period == 0
+        x = self.limits
+        return (k - (p.l + x.scattered_from) - phase) % x.scattered_step == 0
 
     def scattered_of(self, p, phase):
         return [k for k in self.ranks_of(p) if self.on_grid(p, k, phase)]
@@ -354,7 +311,7 @@ class Model:
 
     def judge(self, data):
         """A refusal ('refused', number, place), or the Map of a good plan."""
-        if self.length_is_bad(self.device(data), len(data)):
+        if self.length_is_bad(len(data)):
             return ('refused', 1, 0)
         chain = self.chain(data)
         if isinstance(chain, tuple):
@@ -381,13 +338,13 @@ class Model:
         p = self.judge(data)
         if isinstance(p, tuple):
             return p
-        if self.out_of_range(p.limits, k, phase):
+        if self.out_of_range(k, phase):
             return ('refused', 16, 0)
         return p
 
-    def out_of_range(self, x, k, phase):
+    def out_of_range(self, k, phase):
         """Ground 16, of a subcarrier and a phase."""
-        return not 0 <= k <= x.last_subcarrier or not 0 <= phase < PHASES
+        return not 0 <= k <= self.limits.last_subcarrier or not 0 <= phase < PHASES
 
     def role_of(self, p, k, phase):
         """The role on a good plan: the first that applies."""
@@ -395,17 +352,11 @@ class Model:
             return 'excluded'
         if self.is_plc(p, k):
             return 'plc'
-        if k in self.predefined(p.limits, p.l) or k in [pilot for _, pilot in p.pilots]:
+        if k in self.predefined(p.l) or k in [pilot for _, pilot in p.pilots]:
             return 'continuous'
         if self.on_grid(p, k, phase):
             return 'scattered'
         return 'data'
-
-    def predefined_pilots(self, kind, l):
-        """The predefined pilots of an L, rising, of the device of a kind: eight zeros where L
-        is out of its range."""
-        x = self.device_of_kind(kind)
-        return self.predefined(x, l) if x.lowest_l <= l <= x.highest_l else [0] * 8
 
     def line(self, data):
         return self.line_of(self.judge(data))
@@ -428,24 +379,22 @@ class Model:
 
     def copy(self, data, chain, first, last):
         """The plan with a new last record, at which the last chain record points."""
-        size = self.device(data).record_bytes
-        at = size * self.last_on_chain(chain) + 2
-        index = len(data) // size
+        at = self.limits.record_bytes * self.last_on_chain(chain) + 2
+        index = len(data) // self.limits.record_bytes
         return data[:at] + index.to_bytes(2, 'big') + data[at + 2:] + self.new_record(first, last)
 
     def trial(self, data, first, last):
         """The refusal of the plan by 1 to 5, else what judging the copy gives.  A number
         above 65535, which no record can hold, is 4 at the new record."""
-        x = self.device(data)
-        if self.length_is_bad(x, len(data)):
+        if self.length_is_bad(len(data)):
             return ('refused', 1, 0)
         chain = self.chain(data)
         if isinstance(chain, tuple):
             return chain
         if max(first, last) > 65535:
-            if self.length_is_bad(x, len(data) + x.record_bytes):
+            if self.length_is_bad(len(data) + self.limits.record_bytes):
                 return ('refused', 1, 0)
-            return ('refused', 4, len(data) // x.record_bytes)
+            return ('refused', 4, len(data) // self.limits.record_bytes)
         return self.judge(self.copy(data, chain, first, last))
 
     # --- the reason of a role (change request 08) -----------------------------
@@ -464,7 +413,7 @@ class Model:
             return ('record', self.covering_record(chain, k))
         if role == 'plc':
             return ('record', 0)
-        if role == 'continuous' and k in self.predefined(p.limits, p.l):
+        if role == 'continuous' and k in self.predefined(p.l):
             return self.distance(p, k)
         if role == 'continuous':
             return ('record', self.naming_record(chain, k))
@@ -487,10 +436,10 @@ class Model:
         return next(i for i, r in chain if self.names(r, k))
 
     def distance(self, p, k):
-        """How far a predefined pilot stands below L, or above the PLC's last subcarrier."""
+        """How far a predefined pilot stands below L, or above L+7."""
         if k < p.l:
             return ('below', p.l - k)
-        return ('above', k - (p.l + p.limits.plc_width - 1))
+        return ('above', k - (p.l + self.limits.plc_width - 1))
 
     def scattered_phase(self, p, k):
         """The one phase at which the role is scattered."""
@@ -502,50 +451,50 @@ class Model:
         return '%s %s %d' % self.why(data, k, phase)
 
 
-MODEL = Model()
-
-
-def verdict(data):
+def verdict(data, limits=Limits()):
     """('ok', N_I) or ('refused', number, place)."""
-    return MODEL.verdict(data)
+    return Model(limits).verdict(data)
 
 
-def role(data, k, phase):
+def role(data, k, phase, limits=Limits()):
     """A refusal, or excluded, plc, continuous, scattered or data."""
-    return MODEL.role(data, k, phase)
+    return Model(limits).role(data, k, phase)
 
 
-def predefined(kind, l):
-    """The eight predefined pilots, rising; zeros where L is out of range."""
-    return MODEL.predefined_pilots(kind, l)
+def predefined(l, limits=Limits()):
+    """The eight predefined pilots, rising."""
+    return Model(limits).predefined(l)
 
 
-def scattered(data, phase):
+def scattered(data, phase, limits=Limits()):
     """The subcarriers whose role at the phase is scattered, rising; of a
     refused plan, the refusal."""
-    p = MODEL.judge(data)
-    return p if isinstance(p, tuple) else MODEL.scattered_of(p, phase)
+    model = Model(limits)
+    p = model.judge(data)
+    return p if isinstance(p, tuple) else model.scattered_of(p, phase)
 
 
-def ranks(data):
+def ranks(data, limits=Limits()):
     """The subcarriers of ranks 0 to N_I - 1; of a refused plan, the refusal."""
-    p = MODEL.judge(data)
-    return p if isinstance(p, tuple) else MODEL.ranks_of(p)
+    model = Model(limits)
+    p = model.judge(data)
+    return p if isinstance(p, tuple) else model.ranks_of(p)
 
 
-def line(data):
+def line(data, limits=Limits()):
     """The line that plancheck prints, without its newline."""
-    return MODEL.line(data)
+    return Model(limits).line(data)
 
 
-def trial_line(data, first, last):
+def trial_line(data, first, last, limits=Limits()):
     """The line that trycheck prints, without its newline."""
-    return MODEL.line_of(MODEL.trial(data, first, last))
+    model = Model(limits)
+    return model.line_of(model.trial(data, first, last))
 
 
-def why_line(data, k, phase):
+def why_line(data, k, phase, limits=Limits()):
     """The line that whycheck prints, without its newline."""
-    return MODEL.why_line(data, k, phase)
+    return Model(limits).why_line(data, k, phase)
 
 
 if __name__ == '__main__':

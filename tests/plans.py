@@ -2,8 +2,7 @@
 
 A case is (name, plan, want).  `want` is the line worked out by hand from the
 scope paper, or the first words of it ('ok 421' leaves the scattered count
-open).  cases.py holds the model against every `want`.  Names that end in _25 are of
-the 25 kHz device, whose plans have kind 4 in record 0 (change request 11).
+open).  cases.py holds the model against every `want`.
 """
 
 RUBBISH = b'\xff' * 8
@@ -17,9 +16,9 @@ def record(kind, next_index, first, second, byte1=0):
             + first.to_bytes(2, 'big') + second.to_bytes(2, 'big'))
 
 
-def entries(L, M, ranges=(), pilots=(), head=1):
+def entries(L, M, ranges=(), pilots=()):
     """(kind, first, second) of a plan: PLC, then ranges, then pilots."""
-    return ([(head, L, M)] + [(2, a, b) for a, b in ranges]
+    return ([(1, L, M)] + [(2, a, b) for a, b in ranges]
             + [(3, k, 0) for k in pilots])
 
 
@@ -38,21 +37,13 @@ def chained(items):
     return spread(items, range(len(items)), len(items))
 
 
-def plan(L, M, ranges=(), pilots=(), head=1):
-    return chained(entries(L, M, ranges, pilots, head))
+def plan(L, M, ranges=(), pilots=()):
+    return chained(entries(L, M, ranges, pilots))
 
 
-def plan_25(L, M, ranges=(), pilots=()):
-    return plan(L, M, ranges, pilots, head=4)
-
-
-def outside(a, b, last=4095):
+def outside(a, b):
     """The two ranges that leave a to b active."""
-    return [(0, a - 1), (b + 1, last)]
-
-
-def outside_25(a, b):
-    return outside(a, b, 8191)
+    return [(0, a - 1), (b + 1, 4095)]
 
 
 def singles(*subcarriers):
@@ -185,45 +176,6 @@ def stack(ground):
     return near_a([(1100, 1104)])
 
 
-# --- the same for the 25 kHz device ----------------------------------------
-
-PLAN_B = bytes.fromhex('0400000107980004' '020000020000063F' '0200000009B21FFF')
-
-
-def near_plan_b(ranges=(), pilots=(), L=1944, M=4):
-    """Plan B with more ranges (records 3 on) and then pilots: active 1600 to 2481, 858 ranks,
-    PLC 1944 to 1959 in the window 1832 to 2071."""
-    return plan_25(L, M, outside_25(1600, 2481) + list(ranges), pilots)
-
-
-def wide_25(ranges=(), pilots=()):
-    """L 3000, M 1, active 2000 to 4000: 1977 ranks, PLC window 2888 to 3127."""
-    return plan_25(3000, 1, outside_25(2000, 4000) + list(ranges), pilots)
-
-
-def full_25(ranges=(), pilots=(), L=4000, M=16):
-    """Active 296 to 7896: 7577 ranks less the pilots and exclusions."""
-    return plan_25(L, M, outside_25(296, 7896) + list(ranges), pilots)
-
-
-def two_bands_25(a, b, ranges=(), pilots=()):
-    """Plan B with a second band a to b above it."""
-    return plan_25(1944, 4, [(0, 1599), (2482, a - 1), (b + 1, 8191)] + list(ranges), pilots)
-
-
-def band_below_25(a, b, ranges=(), pilots=()):
-    """Plan B with a second band a to b below it."""
-    return plan_25(1944, 4, [(0, a - 1), (b + 1, 1599), (2482, 8191)] + list(ranges), pilots)
-
-
-def pilots_of_full_25(count):
-    """Further pilots clear of the PLC window 3888 to 4127 of `full_25`."""
-    return [400 + 20 * n for n in range(count)]
-
-
-LARGEST_25 = full_25(pilots=pilots_of_full_25(40))
-ONE_PILOT_FEWER_25 = full_25(pilots=pilots_of_full_25(39))
-
 # --- the cases -------------------------------------------------------------
 
 def all_cases():
@@ -279,7 +231,7 @@ def all_cases():
     case('bad kind and bad length', bytes(9), 'refused 1 0')
 
     # Ground 2: kinds, byte 1 and the second number of kind 3.
-    for value in (0, 2, 3, 5, 128, 255):
+    for value in (0, 2, 3, 4, 128, 255):
         case('record 0 kind %d' % value, kind(PLAN_A, 0, value), 'refused 2 0')
     for value in (0, 1, 4, 129, 130, 255):
         case('record 1 kind %d' % value, kind(PLAN_A, 1, value), 'refused 2 1')
@@ -394,7 +346,7 @@ def all_cases():
     # The order of 2 to 5, inside a record and between records.
     case('record 0: 2, 3 and 4', record(1, 65535, 0, 0, byte1=1) + PLAN_A[8:], 'refused 2 0')
     case('record 0: 3 and 4', record(1, 65535, 0, 0) + PLAN_A[8:], 'refused 3 0')
-    case('record 0: 2 and 3', record(5, 65535, 972, 4) + PLAN_A[8:], 'refused 2 0')
+    case('record 0: 2 and 3', record(4, 65535, 972, 4) + PLAN_A[8:], 'refused 2 0')
     case('record 0: 2 and 4', record(1, 1, 0, 0, byte1=1) + PLAN_A[8:], 'refused 2 0')
     case('record 1: 2 and 3', next_index(kind(PLAN_A, 1, 4), 1, 1), 'refused 2 1')
     case('record 1: 3 and 4', next_index(first(PLAN_A, 1, 4096), 1, 9), 'refused 3 1')
@@ -770,415 +722,6 @@ def all_cases():
     return cases
 
 
-# --- the cases of the 25 kHz device ----------------------------------------
-
-LEFT_25 = [n for k in LEFT for n in (2 * k, 2 * k + 1)]
-FORTY_FOUR = LEFT_25 + [4079 - k for k in LEFT_25]
-
-
-def equal_12_25(extra=()):
-    """44 single exclusions in a band 1600 to 2479, no window too full.  L is 2034."""
-    return plan_25(2034, 4, outside_25(1600, 2479) + singles(*FORTY_FOUR, *extra))
-
-
-def three_bands_25(ranges=()):
-    """Plan B with a band of 80 subcarriers below it and one above it."""
-    return plan_25(1944, 4, [(0, 1399), (1480, 1599), (2482, 2599), (2680, 8191)] + list(ranges))
-
-
-# At the limits of grounds 9 to 12 at once: bands of 880 and 80 subcarriers, 5 x 238 = 1190 = the
-# span, 20 x 4 = 80.
-AT_LIMITS_25 = plan_25(1944, 4, [(0, 1599), (2790, 8191), (2480, 2709), (1620, 1623), (2720, 2723)])
-
-
-def stack_25(ground):
-    """A plan on which `ground` is the first of 6 to 14 to hold, and every
-    later one of them holds too."""
-    low = [(0, 199), (201, 1759)] if ground == 6 else [(0, 1759)]
-    plc = singles(2000) if ground < 8 else []
-    pilots = [1944] if ground < 9 else []
-    top = [(2361, 8191)] if ground < 10 else [(2381, 8191)]
-    # 1760 to 2159 with 21 exclusions, then a band 2300 to 2360 (or 2380)
-    full_windows = [(2080, 2088)] + odd(2100, 12)
-    if ground <= 10:
-        return plan_25(1944, 4, low + [(2160, 2299)] + top + full_windows + plc, pilots)
-    five = singles(3210, 3220, 3230, 3240, 3250)
-    if ground == 11:    # 1760 to 2641, then 3200 to 3280 with five exclusions
-        return plan_25(1944, 4, low + [(2642, 3199), (3281, 8191)] + full_windows + five)
-    if ground == 12:
-        return two_bands_25(2600, 2681, full_windows + singles(2610, 2620, 2630, 2640, 2650))
-    if ground == 13:
-        return near_plan_b([(2200, 2208)] + singles(2260, 2280, 2300, 2320))
-    return near_plan_b([(2200, 2208)])
-
-
-def grounds_1_to_5_25(case):
-    # The same bytes with kind 1 and with kind 4: the first byte alone says which device.
-    case('plan A with kind 4', kind(PLAN_A, 0, 4), 'refused 6 7897')
-    case('plan B with kind 1', kind(PLAN_B, 0, 1), 'refused 4 2')
-    for head, want in ((1, 'ok 982'), (4, 'refused 6 7897')):
-        case('active 1000 to 2000 alone, kind %d' % head,
-             plan(1500, 4, [(0, 999), (2001, 4095)] + singles(1100, 1200, 1300), head=head), want)
-    for head, want in ((1, 'refused 4 2'), (4, 'ok 1974')):
-        case('active 2000 to 4000 alone, kind %d' % head,
-             plan(3000, 4, outside_25(2000, 4000) + singles(2200, 2400, 2600), head=head), want)
-
-    # Ground 1: the plan's length keeps its limits.
-    for length in (1, 7, 12, 15, 23):
-        case('25 kHz, first %d bytes of plan B' % length, PLAN_B[:length], 'refused 1 0')
-    case('25 kHz, first 8 bytes of plan B', PLAN_B[:8], 'refused 3 0')
-    case('25 kHz, one record alone', record(4, 0, 1944, 4), 'refused 6 0')
-    case('25 kHz, one record and a byte', record(4, 0, 1944, 4) + b'\0', 'refused 1 0')
-    case('25 kHz, 16 bytes, all excluded', plan_25(1944, 4, [(0, 8191)]), 'refused 7 1832')
-    case('25 kHz, 25 bytes', PLAN_B + b'\0', 'refused 1 0')
-    for length, want in ((4088, 'ok 858 7'), (4095, 'refused 1 0'), (4096, 'ok 858 7'), (4097, 'refused 1 0'),
-                         (4104, 'refused 1 0'), (8192, 'refused 1 0')):
-        case('25 kHz, %d bytes' % length, PLAN_B + b'\xa5' * (length - 24), want)
-    case('fours, 4096', b'\x04' * 4096, 'refused 2 0')
-
-    # Ground 2: kind 4 is admitted in record 0, and nowhere else.
-    for value in (0, 2, 3, 5, 6, 36, 68, 132, 255):
-        case('plan B, record 0 kind %d' % value, kind(PLAN_B, 0, value), 'refused 2 0')
-    for value in (0, 1, 4, 5, 132, 255):
-        case('plan B, record 1 kind %d' % value, kind(PLAN_B, 1, value), 'refused 2 1')
-    case('plan B, records 1 and 2 kind 4', kind(kind(PLAN_B, 1, 4), 2, 4), 'refused 2 1')
-    for value in (1, 4):
-        case('plan B, record 2 kind %d' % value, kind(PLAN_B, 2, value), 'refused 2 2')
-        case('plan B and the same record, kind %d' % value,
-             next_index(PLAN_B, 2, 3) + record(value, 0, 1944, 4), 'refused 2 3')
-        case('plan A and its record 0, kind %d' % value,
-             next_index(PLAN_A, 2, 3) + record(value, 0, 972, 4), 'refused 2 3')
-        case('plan B, record 1 is kind %d, then its ranges' % value,
-             chained([(4, 1944, 4), (value, 1944, 4), (2, 0, 1599), (2, 2482, 8191)]), 'refused 2 1')
-        case('plan A, record 1 is kind %d, then its ranges' % value,
-             chained([(1, 972, 4), (value, 972, 4), (2, 0, 799), (2, 1241, 4095)]), 'refused 2 1')
-    for value in (1, 4, 255):
-        case('plan B, record 0 byte 1 is %d' % value, byte1(PLAN_B, 0, value), 'refused 2 0')
-        case('plan B, record 2 byte 1 is %d' % value, byte1(PLAN_B, 2, value), 'refused 2 2')
-    case('plan A, record 0 byte 1 is 4', byte1(PLAN_A, 0, 4), 'refused 2 0')
-    one_pilot = near_plan_b(pilots=[1800])
-    case('25 kHz, one pilot', one_pilot, 'ok 857 7')
-    case('25 kHz, pilot record byte 1', byte1(one_pilot, 3, 1), 'refused 2 3')
-    for value in (1, 256):
-        case('25 kHz, pilot second number %d' % value, second(one_pilot, 3, value), 'refused 2 3')
-    # Other bytes of record 0 that are 4, or none that is but the first.
-    case('L 1028, next index 4',
-         spread(entries(1028, 3, outside(800, 1240)), [0, 4, 5], 6), 'ok 425')
-    case('25 kHz, L 1946, M 3, next index 5',
-         spread(entries(1946, 3, outside_25(1600, 2481), head=4), [0, 5, 6], 7), 'ok 858')
-
-    # Ground 3.
-    for value in (1, 3, 65535):
-        case('plan B, record 1 of 3, next %d' % value, next_index(PLAN_B, 1, value), 'refused 3 1')
-    case('plan B, record 0 of 3, next 2', next_index(PLAN_B, 0, 2), 'refused 6 0')
-    case('plan B, record 1 of 3, next 0', next_index(PLAN_B, 1, 0), 'refused 6 7897')
-    case('plan B, record 2 of 3, next 3', next_index(PLAN_B, 2, 3), 'refused 3 2')
-    items = entries(1944, 4, outside_25(1600, 2481), head=4)
-    gaps = spread(items, [0, 3, 7], 9)
-    case('25 kHz, chain 0 3 7', gaps, 'ok 858 7')
-    case('25 kHz, chain 0 3 7, then back to 5', next_index(gaps, 7, 5), 'refused 3 7')
-    case('25 kHz, chain 0 3, then back to 1', next_index(gaps, 3, 1), 'refused 3 3')
-    case('25 kHz, chain 0 3 7, the last kind 4', kind(gaps, 7, 4), 'refused 2 7')
-    case('25 kHz, chain 0 3 7, the last to 8192', second(gaps, 7, 8192), 'refused 4 7')
-    last = spread(items, [0, 510, 511], 512)
-    case('25 kHz, next 511 of 512', last, 'ok 858 7')
-    case('25 kHz, next 512 of 512', next_index(last, 511, 512), 'refused 3 511')
-
-    # Ground 4: numbers of a record.
-    low_end, high_end = plan_25(408, 4, outside_25(296, 1177)), plan_25(7769, 4, outside_25(7015, 7896))
-    case('25 kHz, L 408', low_end, 'ok 858')
-    case('25 kHz, L 407', first(low_end, 0, 407), 'refused 4 0')
-    case('25 kHz, L 7769', high_end, 'ok 858')
-    case('25 kHz, L 7770', first(high_end, 0, 7770), 'refused 4 0')
-    for value in (0, 203, 204, 8191, 8192, 65535):
-        case('25 kHz, L %d' % value, first(PLAN_B, 0, value), 'refused 4 0')
-    for value in (1, 3, 15, 16):
-        case('25 kHz, M %d' % value, second(PLAN_B, 0, value), 'ok 858 7')
-    for value in (0, 17, 32, 256, 260):
-        case('25 kHz, M %d' % value, second(PLAN_B, 0, value), 'refused 4 0')
-    for more in (8192, 16384, 32768):
-        case('25 kHz, L 1944 and %d' % more, first(PLAN_B, 0, 1944 + more), 'refused 4 0')
-        case('25 kHz, M 4 and %d' % more, second(PLAN_B, 0, 4 + more), 'refused 4 0')
-        case('25 kHz, range 1700 and %d' % more, near_plan_b(singles(1700 + more)), 'refused 4 3')
-        case('25 kHz, pilot 1800 and %d' % more, near_plan_b(pilots=[1800 + more]), 'refused 4 3')
-    case('25 kHz, range end 8190', second(PLAN_B, 2, 8190), 'refused 6 8191')
-    case('25 kHz, range end 8192', second(PLAN_B, 2, 8192), 'refused 4 2')
-    case('25 kHz, range end 4095', second(PLAN_B, 2, 4095), 'refused 6 7897')
-    case('25 kHz, range 8191 to 8191', near_plan_b([(8191, 8191)]), 'ok 858 7')
-    case('25 kHz, range 8191 to 8192', near_plan_b([(8191, 8192)]), 'refused 4 3')
-    case('25 kHz, range 8192 to 8191', near_plan_b([(8192, 8191)]), 'refused 4 3')
-    case('25 kHz, range begins one above its end', near_plan_b([(1701, 1700)]), 'refused 4 3')
-    case('25 kHz, range begins at its end', near_plan_b([(1700, 1700)]), 'ok 857')
-    case('25 kHz, pilot 8191', near_plan_b(pilots=[8191]), 'refused 8 3')
-    case('25 kHz, pilot 8192', near_plan_b(pilots=[8192]), 'refused 4 3')
-    case('25 kHz, pilot 4096', full_25(singles(*range(300, 1300, 25)), [4096]), 'ok 7536')
-
-    # Ground 5: the 121st kind 3 record, as before.
-    many = pilots_of_full_25(122)
-    for count, want in ((119, 'ok 7458'), (120, 'ok 7457'), (121, 'refused 5 123'), (122, 'refused 5 123')):
-        case('25 kHz, %d pilots' % count, full_25(pilots=many[:count]), want)
-    case('25 kHz, 120 pilots, then 2 off the chain', next_index(full_25(pilots=many), 122, 0), 'ok 7457')
-    case('25 kHz, 121 pilots, spread', spread(entries(4000, 16, outside_25(296, 7896), many[:121], head=4),
-                                              [2 * n for n in range(124)], 248), 'refused 5 246')
-    case('25 kHz, 121st pilot with second number', second(full_25(pilots=many), 123, 1), 'refused 2 123')
-    case('25 kHz, 121st pilot with next 123', next_index(full_25(pilots=many), 123, 123), 'refused 3 123')
-    case('25 kHz, 121st pilot is 8192', first(full_25(pilots=many), 123, 8192), 'refused 4 123')
-    case('25 kHz, 121st pilot is in the PLC', first(full_25(pilots=many), 123, 4000), 'refused 5 123')
-
-    # The order of 2 to 5, inside a record and between records.
-    case('plan B, record 0: 2, 3 and 4', record(4, 65535, 0, 0, byte1=1) + PLAN_B[8:], 'refused 2 0')
-    case('plan B, record 0: 3 and 4', record(4, 65535, 407, 17) + PLAN_B[8:], 'refused 3 0')
-    case('plan B, record 1: 2 and 3, kind 4', next_index(kind(PLAN_B, 1, 4), 1, 1), 'refused 2 1')
-    case('plan B, record 1: 2 and 4, kind 4', chained([(4, 1944, 4), (4, 0, 0)]), 'refused 2 1')
-    case('plan B, 4 at record 0 before 2 at record 1', kind(second(PLAN_B, 0, 17), 1, 4), 'refused 4 0')
-    case('plan B, 4 at record 1 before 2 at record 2', kind(second(PLAN_B, 1, 8192), 2, 4), 'refused 4 1')
-
-    # The chain: what stands off it is ignored, and names no device.
-    for name, filler in (('kind 1', record(1, 0, 972, 4)), ('kind 4', record(4, 0, 1944, 4)),
-                         ('zeros', bytes(8)), ('0xFF', RUBBISH), ('a range in the PLC', record(2, 0, 1944, 1944)),
-                         ('a sound single range', record(2, 0, 1700, 1700)), ('a sound pilot', record(3, 0, 1800, 0))):
-        case('plan B, off the chain: ' + name, spread(items, [0, 2, 4], 6, filler), 'ok 858 7')
-    case('plan B, off the chain: pilot that the chain names',
-         spread(items + [(3, 1800, 0)], [0, 2, 4, 6], 8, record(3, 0, 1800, 0)), 'ok 857')
-    case('plan A, off the chain: kind 4, sound',
-         spread(entries(972, 4, outside(800, 1240)), [0, 2, 4], 6, record(4, 0, 1944, 4)), 'ok 425 4')
-    case('25 kHz, ranges in the other order', plan_25(1944, 4, outside_25(1600, 2481)[::-1]), 'ok 858 7')
-
-
-def grounds_6_to_8_25(case):
-    # Ground 6: active below 296 or above 7896.
-    case('25 kHz, 295 active', plan_25(408, 4, outside_25(295, 1177)), 'refused 6 295')
-    case('25 kHz, 296 excluded', plan_25(409, 4, outside_25(297, 1178)), 'ok 858')
-    case('25 kHz, 148 active', plan_25(1944, 4, [(0, 147), (149, 1599), (2482, 8191)]), 'refused 6 148')
-    case('25 kHz, 7897 active', plan_25(7769, 4, outside_25(7015, 7897)), 'refused 6 7897')
-    case('25 kHz, 7896 excluded', plan_25(7768, 4, outside_25(7014, 7895)), 'ok 858')
-    case('25 kHz, 0 active', plan_25(1944, 4, [(1, 1599), (2482, 8191)]), 'refused 6 0')
-    case('25 kHz, 8191 active', plan_25(1944, 4, [(0, 1599), (2482, 8190)]), 'refused 6 8191')
-    case('25 kHz, 200 and 8000 active', plan_25(1944, 4, [(0, 199), (201, 1599), (2482, 7999), (8001, 8191)]), 'refused 6 200')
-    case('25 kHz, 295 to 7896 active', plan_25(4000, 1, outside_25(295, 7896)), 'refused 6 295')
-    case('25 kHz, 296 to 7897 active', plan_25(4000, 1, outside_25(296, 7897)), 'refused 6 7897')
-
-    # Ground 7: L-112 to L+127.
-    case('L-113 excluded', near_plan_b(singles(1831)), 'ok 857')
-    for k in (1832, 1833, 1944, 1959, 1960, 2070, 2071):
-        case('25 kHz, %d excluded' % k, near_plan_b(singles(k)), 'refused 7 %d' % k)
-    case('L+128 excluded', near_plan_b(singles(2072)), 'ok 857')
-    case('L-112 and L+127 excluded', near_plan_b(singles(2071, 1832)), 'refused 7 1832')
-    case('lower exclusion band ends at L-113', plan_25(1944, 4, outside_25(1832, 2713)), 'ok 858')
-    case('lower exclusion band ends at L-112', plan_25(1944, 4, outside_25(1833, 2714)), 'refused 7 1832')
-    case('upper exclusion band starts at L+128', plan_25(1944, 4, outside_25(1190, 2071)), 'ok 858')
-    case('upper exclusion band starts at L+127', plan_25(1944, 4, outside_25(1189, 2070)), 'refused 7 2071')
-    case('25 kHz, L 408, 296 excluded', plan_25(408, 4, outside_25(297, 1178)), 'refused 7 296')
-    case('25 kHz, L 7769, 7896 excluded', plan_25(7769, 4, outside_25(7014, 7895)), 'refused 7 7896')
-
-    # Ground 8: further pilots.
-    for k in range(1944, 1960):
-        case('25 kHz, pilot in the PLC at L+%d' % (k - 1944), near_plan_b(pilots=[k]), 'refused 8 3')
-    case('25 kHz, pilot at L-1', near_plan_b(pilots=[1943]), 'ok 857 7')
-    case('25 kHz, pilot at L+16', near_plan_b(pilots=[1960]), 'ok 857 6')
-    for k in (1850, 1874, 1896, 1914, 1989, 2007, 2029, 2053):
-        case('25 kHz, pilot at predefined %d' % k, near_plan_b(pilots=[k]), 'refused 8 3')
-        case('25 kHz, pilots beside predefined %d' % k, near_plan_b(pilots=[k - 1, k + 1]), 'ok 856 7')
-    # where the 50 kHz device has its predefined pilots
-    case('pilots at 15, 24, 35 and 47', near_plan_b(pilots=[1897, 1909, 1920, 1929, 1966, 1975, 1986, 1998]), 'ok 850 7')
-    case('25 kHz, L 408, pilot at L-94', plan_25(408, 4, outside_25(296, 1177), [314]), 'refused 8 3')
-    case('25 kHz, L 7769, pilot at L+109', plan_25(7769, 4, outside_25(7015, 7896), [7878]), 'refused 8 3')
-    case('25 kHz, pilot in the lower exclusion band', near_plan_b(pilots=[1599]), 'refused 8 3')
-    case('25 kHz, pilot at the lowest active', near_plan_b(pilots=[1600]), 'ok 857 7')
-    case('25 kHz, pilot at the highest active', near_plan_b(pilots=[2481]), 'ok 857 7')
-    case('25 kHz, pilot in the upper exclusion band', near_plan_b(pilots=[2482]), 'refused 8 3')
-    case('25 kHz, pilot singly excluded', near_plan_b(singles(1700), [1700]), 'refused 8 4')
-    case('25 kHz, pilot twice', near_plan_b(pilots=[1800, 1801, 1800]), 'refused 8 5')
-    case('25 kHz, pilot twice, spread',
-         spread(entries(1944, 4, outside_25(1600, 2481), [1800, 1800], head=4), [0, 3, 5, 6, 9], 11), 'refused 8 9')
-    case('25 kHz, repeated pilot, then one in the PLC', near_plan_b(pilots=[1800, 1800, 1950]), 'refused 8 4')
-    case('25 kHz, predefined, PLC and excluded pilots', near_plan_b(pilots=[1800, 1850, 1950, 1000]), 'refused 8 4')
-    case('25 kHz, pilots on all scattered',
-         near_plan_b(pilots=[1704, 1832, 1960, 2088, 2216, 2344, 2472]), 'ok 851 0')
-    case('25 kHz, scattered 1704 excluded', near_plan_b(singles(1704)), 'ok 857 6')
-    case('25 kHz, lowest active is scattered', plan_25(1944, 4, outside_25(1704, 2585)), 'ok 858 7')
-    case('25 kHz, one below the lowest active would be scattered', plan_25(1944, 4, outside_25(1705, 2586)), 'ok 858 6')
-    case('25 kHz, highest active is scattered', plan_25(1944, 4, outside_25(1591, 2472)), 'ok 858 7')
-    case('25 kHz, one above the highest active would be scattered', plan_25(1944, 4, outside_25(1590, 2471)), 'ok 858 6')
-
-
-def grounds_9_to_12_25(case):
-    # Ground 9: narrow bands, below 80.
-    case('25 kHz, upper band of width 79', two_bands_25(2600, 2678), 'refused 9 2600')
-    case('25 kHz, upper band of width 80', two_bands_25(2600, 2679), 'ok 938')
-    case('25 kHz, lower band of width 79', band_below_25(1400, 1478), 'refused 9 1400')
-    case('25 kHz, lower band of width 80', band_below_25(1400, 1479), 'ok 938')
-    case('25 kHz, upper band of width 40', two_bands_25(2600, 2639), 'refused 9 2600')
-    case('25 kHz, band of width 79 between two of 40', wide_25([(2200, 2239), (2319, 2358)]), 'refused 9 2240')
-    case('25 kHz, band of width 80 between two of 40', wide_25([(2200, 2239), (2320, 2359)]), 'ok 1897')
-    case('25 kHz, bands of width 80 below and above', three_bands_25(), 'ok 1018')
-    case('25 kHz, narrow bands below and above',
-         plan_25(1944, 4, [(0, 1399), (1479, 1599), (2482, 2599), (2679, 8191)]), 'refused 9 1400')
-    case('25 kHz, narrow band with an exclusion in it', two_bands_25(2600, 2678, singles(2640)), 'refused 9 2600')
-    case('25 kHz, band of width 80 with an exclusion in it', two_bands_25(2600, 2679, singles(2640)), 'ok 937')
-    case('25 kHz, narrow lowest band at 296', plan_25(1944, 4, [(0, 295), (375, 414), (2482, 8191)]), 'refused 9 296')
-    case('25 kHz, lowest band of width 80 at 296', plan_25(1944, 4, [(0, 295), (376, 415), (2482, 8191)]), 'ok 2122')
-    case('25 kHz, narrow highest band at 7896', plan_25(7600, 4, [(0, 6777), (7778, 7817), (7897, 8191)]), 'refused 9 7818')
-    case('25 kHz, highest band of width 80 at 7896', plan_25(7600, 4, [(0, 6777), (7777, 7816), (7897, 8191)]), 'ok 1055')
-    case('25 kHz, at the limits of grounds 9 to 12', AT_LIMITS_25, 'ok 928')
-
-    # Exclusion bands: runs of 39 and of 40.
-    case('25 kHz, run of 40', wide_25([(2200, 2239)]), 'ok 1937')
-    case('25 kHz, run of 39', wide_25([(2200, 2238)]), 'refused 13 2000')
-    case('25 kHz, run of 41', wide_25([(2200, 2240)]), 'ok 1936')
-    case('25 kHz, run of 20', wide_25([(2200, 2219)]), 'refused 13 2000')
-    case('25 kHz, run of 39 near the end', wide_25([(3800, 3838)]), 'refused 13 3573')
-    case('25 kHz, runs of 40 and 39', wide_25([(2200, 2239), (3800, 3838)]), 'refused 13 3573')
-    case('25 kHz, touching, an exclusion band together', wide_25([(2200, 2219), (2220, 2239)]), 'ok 1937')
-    case('25 kHz, run of 40 splits the only wide band', near_plan_b([(1720, 1759)]), 'refused 10 0')
-
-    # Ground 10: no band of width 880.
-    case('width 880', plan_25(1944, 4, outside_25(1800, 2679)), 'ok 856')
-    case('width 879', plan_25(1944, 4, outside_25(1800, 2678)), 'refused 10 0')
-    case('25 kHz, width 440', plan_25(1944, 4, outside_25(1800, 2239)), 'refused 10 0')
-    case('width 880, the lowest there is', plan_25(408, 4, outside_25(296, 1175)), 'ok 856')
-    case('width 879, the lowest there is', plan_25(408, 4, outside_25(296, 1174)), 'refused 10 0')
-    case('width 880, the highest there is', plan_25(7769, 4, outside_25(7017, 7896)), 'ok 856')
-    case('width 879, the highest there is', plan_25(7769, 4, outside_25(7018, 7896)), 'refused 10 0')
-    case('two bands of width 879', plan_25(1944, 4, [(0, 1599), (2479, 2518), (3398, 8191)]), 'refused 10 0')
-    case('bands of width 879 and 880', plan_25(1944, 4, [(0, 1599), (2479, 2518), (3399, 8191)]), 'ok 1735')
-    case('widths 880 and 879, but 39 between', plan_25(1944, 4, [(0, 1599), (2480, 2518), (3398, 8191)]),
-         'refused 13 2253')
-    case('bands of width 880 and 879', plan_25(1944, 4, [(0, 1599), (2480, 2519), (3399, 8191)]), 'ok 1735')
-
-    # Ground 11: 1600 to 2481, 242 excluded, 2724 to 2809: 5 x 242 = 1210 = the span.
-    case('25 kHz, 20 per cent, equal', two_bands_25(2724, 2809), 'ok 944')
-    case('25 kHz, 20 per cent, one less span', two_bands_25(2724, 2808), 'refused 11 0')
-    case('25 kHz, 20 per cent, equal, and a single', two_bands_25(2724, 2809, singles(2200)), 'refused 11 0')
-    case('25 kHz, 20 per cent, five more span and a single', two_bands_25(2724, 2814, singles(2200)), 'ok 948')
-    case('25 kHz, 20 per cent, four more span and a single', two_bands_25(2724, 2813, singles(2200)), 'refused 11 0')
-    case('25 kHz, 20 per cent, lower band, equal', band_below_25(1272, 1357), 'ok 944')
-    case('25 kHz, 20 per cent, lower band, one less', band_below_25(1273, 1357), 'refused 11 0')
-    # 1600 to 2479: 5 x 176 = 880 = the span.
-    case('25 kHz, 20 per cent, singles only, one above',
-         plan_25(1944, 4, outside_25(1600, 2479) + odd(2074, 177)), 'refused 11 0')
-    case('25 kHz, 20 per cent, singles only, equal',
-         plan_25(1944, 4, outside_25(1600, 2479) + odd(2074, 176)), 'refused 12 1600')
-
-    # Ground 12: twenty times a band's excluded exceeds its width.
-    four = (2610, 2630, 2650, 2670)
-    case('25 kHz, 5 per cent, width 80, four', two_bands_25(2600, 2679, singles(*four)), 'ok 934')
-    case('25 kHz, 5 per cent, width 80, five', two_bands_25(2600, 2679, singles(*four, 2620)), 'refused 12 2600')
-    case('25 kHz, 5 per cent, width 99, five', two_bands_25(2600, 2698, singles(*four, 2620)), 'refused 12 2600')
-    case('25 kHz, 5 per cent, width 100, five', two_bands_25(2600, 2699, singles(*four, 2620)), 'ok 953')
-    case('5 per cent, width 880, 44', equal_12_25(), 'ok 812')
-    case('5 per cent, width 880, 45', equal_12_25([1740]), 'refused 12 1600')
-    case('25 kHz, 5 per cent, two bands over',
-         three_bands_25(singles(*four, 2620, 1410, 1420, 1430, 1440, 1450)), 'refused 12 1400')
-    case('25 kHz, 5 per cent, upper of three over',
-         three_bands_25(singles(*four, 2620, 1410, 1420, 1430, 1440)), 'refused 12 2600')
-    case('25 kHz, 5 per cent, shared between bands',
-         three_bands_25(singles(*four, 1410, 1420, 1430, 1440)), 'ok 1010')
-
-
-def grounds_13_to_15_25(case):
-    # Ground 13: windows of 240 with more than 12 excluded.
-    twelve = range(2010, 2231, 20)
-    case('twelve singles', wide_25(singles(*twelve)), 'ok 1965')
-    case('thirteen, first to last 238', wide_25(singles(*twelve, 2248)), 'refused 13 2009')
-    case('thirteen, first to last 239', wide_25(singles(*twelve, 2249)), 'refused 13 2010')
-    case('thirteen, first to last 240', wide_25(singles(*twelve, 2250)), 'ok 1964')
-    case('fourteen, the thirteenth 240 on', wide_25(singles(*twelve, 2250, 2269)), 'refused 13 2030')
-    case('thirteen in the lowest window', wide_25(singles(*range(2001, 2222, 20), 2239)), 'refused 13 2000')
-    case('thirteen, not in the lowest window', wide_25(singles(*range(2001, 2222, 20), 2240)), 'refused 13 2001')
-    case('thirteen in the window below the last', wide_25(singles(3760, *range(3779, 4000, 20))), 'refused 13 3760')
-    case('thirteen, just not in the window below the last', wide_25(singles(3759, *range(3779, 4000, 20))), 'ok 1964')
-    case('thirteen at the bottom of plan B', near_plan_b(singles(*range(1605, 1822, 18))), 'refused 13 1600')
-    case('25 kHz, seven singles, first to last 119', wide_25(singles(*range(2010, 2111, 20), 2129)), 'ok 1970')
-    case('25 kHz, full window in the upper band only',
-         wide_25([(2600, 2639)] + singles(*(k + 1400 for k in twelve), 3649)), 'refused 13 3410')
-    case('25 kHz, two full windows in two bands',
-         wide_25([(2600, 2639)] + singles(*twelve, 2249, *(k + 1400 for k in twelve), 3649)), 'refused 13 2010')
-    case('twelve below and twelve above an exclusion band',
-         wide_25([(2600, 2639)] + singles(*range(2480, 2591, 10), *range(2650, 2761, 10))), 'ok 1913')
-    # A band of fewer than 240 subcarriers has no window of 240.
-    eleven = range(2610, 2791, 18)
-    case('239 subcarriers, eleven', two_bands_25(2600, 2838, singles(*eleven)), 'ok 1086')
-    case('239 subcarriers, twelve', two_bands_25(2600, 2838, singles(*eleven, 2808)), 'refused 12 2600')
-    case('240 subcarriers, twelve', two_bands_25(2600, 2839, singles(*eleven, 2808)), 'ok 1086')
-    case('259 subcarriers, thirteen', two_bands_25(2600, 2858, singles(*eleven, 2808, 2826)), 'refused 12 2600')
-    case('260 subcarriers, thirteen', two_bands_25(2600, 2859, singles(*eleven, 2808, 2826)), 'refused 13 2600')
-    case('260 subcarriers, thirteen, first to last 240', two_bands_25(2600, 2859, singles(*eleven, 2808, 2850)), 'ok 1105')
-
-    # Ground 14: windows of 40 with more than 8 excluded.
-    case('eight together', wide_25([(2200, 2207)]), 'ok 1969')
-    case('nine together', wide_25([(2200, 2208)]), 'refused 14 2169')
-    case('25 kHz, five together', wide_25([(2200, 2204)]), 'ok 1972')
-    case('nine, first to last 38', wide_25([(2200, 2207), (2238, 2238)]), 'refused 14 2199')
-    case('nine, first to last 39', wide_25([(2200, 2207), (2239, 2239)]), 'refused 14 2200')
-    case('nine, first to last 40', wide_25([(2200, 2207), (2240, 2240)]), 'ok 1968')
-    case('nine at the start of the band', wide_25([(2001, 2009)]), 'refused 14 2000')
-    case('nine, the last in the lowest window', wide_25([(2001, 2008), (2039, 2039)]), 'refused 14 2000')
-    case('nine, the last just past the lowest window', wide_25([(2001, 2008), (2040, 2040)]), 'refused 14 2001')
-    case('nine at the end of the band', wide_25([(3991, 3999)]), 'refused 14 3960')
-    case('nine, the last window but one', wide_25([(3960, 3967), (3999, 3999)]), 'refused 14 3960')
-    case('nine, just not in a window at the end', wide_25([(3959, 3959), (3992, 3999)]), 'ok 1968')
-    case('25 kHz, two short windows', wide_25([(3400, 3408), (2200, 2208)]), 'refused 14 2169')
-    case('25 kHz, short windows in two bands', wide_25([(2600, 2639), (3400, 3408), (2200, 2208)]), 'refused 14 2169')
-    case('25 kHz, short window in the upper band', wide_25([(2600, 2639), (3400, 3408)]), 'refused 14 3369')
-    case('25 kHz, short window just above an exclusion band', wide_25([(2600, 2639), (2641, 2649)]), 'refused 14 2640')
-    case('25 kHz, short window just below an exclusion band', wide_25([(2600, 2639), (2590, 2598)]), 'refused 14 2559')
-    case('eight below and eight above a gap of 40', wide_25([(2600, 2639), (2591, 2598), (2641, 2648)]), 'ok 1921')
-    case('plan B without 1700 to 1708', near_plan_b([(1700, 1708)]), 'refused 14 1669')
-    case('plan B without 1700 to 1707', near_plan_b([(1700, 1707)]), 'ok 850 6')
-    case('plan B without 1700 to 1707, twice', near_plan_b([(1700, 1707)] * 2), 'ok 850 6')
-    case('nine beside L-112', near_plan_b([(1823, 1831)]), 'refused 14 1792')
-    case('nine beside L+127', near_plan_b([(2072, 2080)]), 'refused 14 2041')
-
-    # Ground 15: more than 7537 ranks.
-    case('25 kHz, no pilots at all', full_25(), 'refused 15 0')
-    case('25 kHz, 41 pilots', full_25(pilots=pilots_of_full_25(41)), 'ok 7536')
-    case('25 kHz, an exclusion band of 40', full_25([(2000, 2039)]), 'ok 7537')
-    case('25 kHz, 40 off the lower end', plan_25(4000, 16, outside_25(336, 7896)), 'ok 7537')
-    case('25 kHz, 39 off the lower end', plan_25(4000, 16, outside_25(335, 7896)), 'refused 15 0')
-    case('25 kHz, 40 off the upper end', plan_25(4000, 16, outside_25(296, 7856)), 'ok 7537')
-    case('25 kHz, 39 off the upper end', plan_25(4000, 16, outside_25(296, 7857)), 'refused 15 0')
-    case('25 kHz, 40 singles', full_25(singles(*range(300, 1300, 25))), 'ok 7537')
-    case('25 kHz, 39 singles', full_25(singles(*range(300, 1275, 25))), 'refused 15 0')
-    case('25 kHz, 20 singles and 20 pilots', full_25(singles(*range(303, 803, 25)), pilots_of_full_25(20)), 'ok 7537')
-
-
-def several_grounds_25(case):
-    # Two grounds at once: the lower one is named.
-    for ground, want in ((6, 'refused 6 200'), (7, 'refused 7 2000'), (8, 'refused 8 17'),
-                         (9, 'refused 9 2300'), (10, 'refused 10 0'), (11, 'refused 11 0'),
-                         (12, 'refused 12 2600'), (13, 'refused 13 2081'), (14, 'refused 14 2169')):
-        case('25 kHz, stack from ground %d' % ground, stack_25(ground), want)
-    case('25 kHz, grounds 6 and 15', plan_25(4000, 1, outside_25(200, 7896)), 'refused 6 200')
-    case('25 kHz, grounds 7 and 15', full_25(singles(4000)), 'refused 7 4000')
-    case('25 kHz, grounds 8 and 15', full_25(pilots=[4000]), 'refused 8 3')
-    case('25 kHz, grounds 13 and 15', full_25(singles(*range(2010, 2231, 20), 2249)), 'refused 13 2010')
-    case('25 kHz, grounds 14 and 15', full_25([(2200, 2208)]), 'refused 14 2169')
-
-
-def all_cases_25():
-    """The cases of change request 11, after all others."""
-    cases = []
-
-    def case(name, data, want):
-        cases.append((name, data, want))
-
-    # Plan B and its neighbours.
-    case('plan B', PLAN_B, 'ok 858 7')
-    case('plan B built', near_plan_b(), 'ok 858 7')
-    case('plan B active 1600 to 2479', plan_25(1944, 4, outside_25(1600, 2479)), 'ok 856 7')
-    case('plan B active 1600 to 2478', plan_25(1944, 4, outside_25(1600, 2478)), 'refused 10 0')
-    case('plan B without 2363 to 2402', near_plan_b([(2363, 2402)]), 'refused 9 2403')
-    case('plan B without 2362 to 2401', near_plan_b([(2362, 2401)]), 'refused 10 0')
-    case('plan B without 1679 to 1718', near_plan_b([(1679, 1718)]), 'refused 9 1600')
-    case('plan B without 1680 to 1719', near_plan_b([(1680, 1719)]), 'refused 10 0')
-    case('active 296 to 7896, 40 pilots', LARGEST_25, 'ok 7537 59')
-    case('active 296 to 7896, 39 pilots', ONE_PILOT_FEWER_25, 'refused 15 0')
-    for part in (grounds_1_to_5_25, grounds_6_to_8_25, grounds_9_to_12_25, grounds_13_to_15_25, several_grounds_25):
-        part(case)
-    return cases
-
-
 if __name__ == '__main__':
-    for name, data, want in all_cases() + all_cases_25():
+    for name, data, want in all_cases():
         print('%5d bytes  %-60s %s' % (len(data), name, want))

@@ -1,8 +1,8 @@
 #!/usr/bin/env python3
 """A second model of the points for the modulator, written from source document
-000 and requests 04 and 11 alone: whole-number points, the way back, the numbers
-under the root, scaled points, what stands on the line, a modulator symbol of either
-device filled as docs/MODULATOR.md says.  Like the other models it is kept plain: every rule is a
+000 and request 04 alone: whole-number points, the way back, the numbers under
+the root, scaled points, what stands on the line, a modulator symbol filled as
+docs/MODULATOR.md says.  Like the other models it is kept plain: every rule is a
 small method that can be held against the papers, and that a test can bend.
 Numbers in single precision are their 32 bits.
 
@@ -37,10 +37,9 @@ r = x % 16384.  Its load is the one at r % 12 of the twelve listed; its sign byt
 by r // 108 % 10 one of 0, 1, 2, 4, 8, 16, 32, 64, 128 and 255; its cell by
 r // 12 % 9 the value 0, the value 1, the last value, the value of the lowest bits
 of r, or one of the five marks.
-There are 8,193 of each, and 16,386 numbers, all 0.75 before the first case; each
+There are 4,097 of each, and 8,194 numbers, all 0.75 before the first case; each
 case finds them as the last one left them.  A line has the number, place and
-subcarrier of the refusal, or 0 0 0, and the checksum of the first 8,194 numbers
-where at most 4,097 cells are lent, else of all numbers.
+subcarrier of the refusal, or 0 0 0, and the checksum of all 8,194 numbers.
 """
 
 import re
@@ -55,8 +54,7 @@ import stored
 from stored import PRIME, mix, mix_cells
 
 SCATTERED, FILLER, EXCLUDED, CONTINUOUS, PLC = MARKS = range(0x8000, 0x8005)
-SUBCARRIERS = 4096                  # of the 50 kHz device ...
-SUBCARRIERS_25 = 8192               # ... and of the 25 kHz device
+SUBCARRIERS = 4096
 
 
 def number(bits):
@@ -210,13 +208,9 @@ class Points:
     def is_minus(self, byte):
         return byte != 0
 
-    def subcarriers(self, symbol):
-        """Of the device of a symbol: by its length the 25 kHz device, else the 50 kHz one."""
-        return SUBCARRIERS_25 if len(symbol) == SUBCARRIERS_25 else SUBCARRIERS
-
     def fits(self, symbol, loads, minus, numbers):
-        n = self.subcarriers(symbol)
-        return len(symbol) == len(loads) == len(minus) == n and len(numbers) == 2 * n
+        return (len(symbol) == len(loads) == len(minus) == SUBCARRIERS
+                and len(numbers) == 2 * SUBCARRIERS)
 
     def written(self, numbers, k, line):
         """The two numbers of subcarrier k, first coordinate first."""
@@ -377,17 +371,12 @@ def attempt(line, *given):
 
 # --- modulatecases ---------------------------------------------------------
 
-ROOM = SUBCARRIERS_25 + 1
+ROOM = SUBCARRIERS + 1
+NUMBERS = 2 * ROOM
 BEFORE = bits_of(Fraction(3, 4))
 SIGNS = (0, 1, 2, 4, 8, 16, 32, 64, 128, 255)
-LENT = ('cells', 'loads', 'signs', 'numbers')
-KHZ25 = '25 kHz: '                  # begins the names of its cases and mutants
+FIT = (SUBCARRIERS, SUBCARRIERS, SUBCARRIERS, 2 * SUBCARRIERS)
 NO_CHANGE = (4294967295, 0, 0)
-
-
-def lengths_of(n):
-    """How many cells, loads, sign bytes and numbers there are of n subcarriers."""
-    return n, n, n, 2 * n
 
 
 @lru_cache(maxsize=None)
@@ -410,7 +399,7 @@ def modulate_cases():
     """(name, seed, the four lengths, the changes, the answer worked out by hand)."""
     cases = []
 
-    def case(name, want='0 0 0', changes=(), lengths=lengths_of(SUBCARRIERS)):
+    def case(name, want='0 0 0', changes=(), lengths=FIT):
         cases.append((name, len(cases) + 1, lengths, changes, want))
 
     last = SUBCARRIERS - 1
@@ -439,67 +428,19 @@ def modulate_cases():
     case('23 twice', '23 8192 100', [(100, 8192, 13), (4000, 2, 1)])
     case('a refusal past the last subcarrier', changes=[(SUBCARRIERS, 0, 0)])
     # lengths
-    wrong_lengths(case, SUBCARRIERS)
-    case('nothing', '17 0 0', (), (0, 0, 0, 0))
-    before_others(case, SUBCARRIERS)
-    case('no refusal, at the end')
-    cases_25(case)
-    return cases
-
-
-def wrong_lengths(case, n, device=''):
-    """Each length wrong by itself, and all of them."""
-    right = lengths_of(n)
-    for i, what in enumerate(LENT):
+    for n, what in enumerate(('cells', 'loads', 'signs', 'numbers')):
         for step in (-1, 1, *((-2, 2) if what == 'numbers' else ())):
-            case('%s%+d %s' % (device, step, what), '17 0 0', (), [size + step * (j == i) for j, size in enumerate(right)])
-        case('%sno %s' % (device, what), '17 0 0', (), [size * (j != i) for j, size in enumerate(right)])
-    case(device + 'a subcarrier more of all', '17 0 0', (), lengths_of(n + 1))
-    case(device + 'a subcarrier less of all', '17 0 0', (), lengths_of(n - 1))
-
-
-def before_others(case, n, device=''):
-    """17 with half the numbers, and before 22 and 23."""
-    case(device + 'a number for each subcarrier', '17 0 0', (), (n, n, n, n))
-    case(device + '17 before 22', '17 0 0', [(0, 0, 5)], (n, n, n, 2 * n + 2))
-    case(device + '17 before 23', '17 0 0', [(0, 64, 6)], (n, n, n + 1, 2 * n))
-
-
-def of_both():
-    """(name, lengths) of which one is that of the other device."""
-    few, many = lengths_of(SUBCARRIERS), lengths_of(SUBCARRIERS_25)
-    for i, what in enumerate(LENT):
-        yield 'half as many ' + what, (*many[:i], few[i], *many[i + 1:])
-        yield 'its %s with 4,096 subcarriers' % what, (*few[:i], many[i], *few[i + 1:])
-
-
-def cases_25(case):
-    """The 25 kHz device, and lengths of both devices together."""
-    n, other = SUBCARRIERS_25, SUBCARRIERS
-
-    def case_25(name, want='0 0 0', changes=()):
-        case(KHZ25 + name, want, changes, lengths_of(n))
-
-    case_25('no refusal')
-    for k in (0, other - 1, other, n - 2, n - 1):
-        case_25('load 5 at %d' % k, '22 5 %d' % k, [(k, 0, 5)])
-        case_25('the value 64 with load 6 at %d' % k, '23 64 %d' % k, [(k, 64, 6)])
-        case_25('no refusal, after those at %d' % k)
-    case_25('23 far below 22', '23 4 0', [(0, 4, 2), (n - 1, 0, 5)])
-    case_25('22 far below 23', '22 5 %d' % other, [(n - 1, 4, 2), (other, 0, 5)])
-    case_25('22 twice', '22 3 6143', [(6144, 0, 5), (6143, 0, 3)])
-    case_25('a refusal past the last subcarrier', changes=[(n, 0, 0)])
-    wrong_lengths(case, n, KHZ25)
-    for name, lengths in of_both():
-        case(KHZ25 + name, '17 0 0', (), lengths)
-    before_others(case, n, KHZ25)
-    case(KHZ25 + '4,096 subcarriers, a refusal past the last', changes=[(other, 0, 0)])
-    case_25('no refusal, at the end')
-
-
-def seen_of(lengths):
-    """How many numbers a case's checksum has."""
-    return 2 * (SUBCARRIERS if lengths[0] <= SUBCARRIERS + 1 else SUBCARRIERS_25) + 2
+            lengths = [size + step * (i == n) for i, size in enumerate(FIT)]
+            case('%+d %s' % (step, what), '17 0 0', (), lengths)
+        case('no ' + what, '17 0 0', (), [size * (i != n) for i, size in enumerate(FIT)])
+    case('a subcarrier more of all', '17 0 0', (), (ROOM, ROOM, ROOM, NUMBERS))
+    case('a subcarrier less of all', '17 0 0', (), (last, last, last, 2 * last))
+    case('nothing', '17 0 0', (), (0, 0, 0, 0))
+    case('a number for each subcarrier', '17 0 0', (), (*FIT[:3], SUBCARRIERS))
+    case('17 before 22', '17 0 0', [(0, 0, 5)], (*FIT[:3], NUMBERS))
+    case('17 before 23', '17 0 0', [(0, 64, 6)], (*FIT[:2], ROOM, FIT[3]))
+    case('no refusal, at the end')
+    return cases
 
 
 def modulate_line(model, seed, lengths, changes, numbers):
@@ -510,13 +451,13 @@ def modulate_line(model, seed, lengths, changes, numbers):
     lent = numbers[:lengths[3]]
     kind, *refusal = model.modulate(symbol[:lengths[0]], loads[:lengths[1]], minus[:lengths[2]], lent)
     numbers[:lengths[3]] = lent
-    return '%d %d %d %d' % (*(refusal if kind == 'refused' else (0, 0, 0)), mix_cells(0, numbers[:seen_of(lengths)]))
+    return '%d %d %d %d' % (*(refusal if kind == 'refused' else (0, 0, 0)), mix_cells(0, numbers))
 
 
 def modulate_lines(model, _=None):
     """(name, line) of each case."""
     model.on_line = lru_cache(maxsize=None)(model.on_line)
-    numbers = [BEFORE] * 2 * ROOM
+    numbers = [BEFORE] * NUMBERS
     for name, seed, lengths, changes, _ in modulate_cases():
         yield name, attempt(modulate_line, model, seed, lengths, changes, numbers)
 
@@ -772,7 +713,7 @@ def symbol_mutants():
         lambda line, old: line[0] == 'pilot' and [0, line[1]]))
     yield other('coordinates exchanged', written=writing(
         lambda line, old: line[0] == 'point' and [line[2], line[1]]))
-    for k in (0, 1, 2047, 4095, 4096, 8191):
+    for k in (0, 1, 2047, 4095):
         yield other('subcarrier %d not written' % k, written=lambda self, numbers, n, line, k=k: (
             Points.written(self, numbers, n, line) if n != k else None))
     bytes_ = {'only 1 is minus': lambda b: b == 1, 'only 255 is minus': lambda b: b == 255,
@@ -791,7 +732,7 @@ def symbol_mutants():
             lambda all_, ground=ground: min(all_, key=lambda r: (r[1] != ground, r[3])) if all_ else None))
     yield other('the lowest place first', first_refusal=firsts(
         lambda all_: min(all_, key=lambda r: r[2]) if all_ else None))
-    for k in (0, 4095, 4096, 8191):
+    for k in (0, 4095):
         yield other('refusal of subcarrier %d not seen' % k, first_refusal=firsts(
             lambda all_, k=k: next((r for r in all_ if r[3] != k), None)))
     yield other('subcarrier one more', first_refusal=firsts(
@@ -810,39 +751,16 @@ def symbol_mutants():
         or Points.modulate(self, symbol, loads, minus, numbers)))
     yield other('place of 17 one', modulate=lambda self, *lent: (
         Points.modulate(self, *lent) if self.fits(*lent) else ('refused', 17, 1, 0)))
-    for n, what in enumerate(LENT):
+    for n, what in enumerate(('cells', 'loads', 'signs', 'numbers')):
         for wrong in ('few', 'many'):
             yield other('too %s %s' % (wrong, what), fits=lambda self, *lent, n=n, wrong=wrong: (
-                all(len(part) == size for i, (part, size) in enumerate(zip(lent, lengths_of(SUBCARRIERS))) if i != n)
-                and (len(lent[n]) <= lengths_of(SUBCARRIERS)[n] if wrong == 'few'
-                     else len(lent[n]) >= lengths_of(SUBCARRIERS)[n])))
-
-
-def device_mutants():
-    """The modulator symbol of the 25 kHz device."""
-    def other(name, **changed):
-        return KHZ25 + name, bent(**changed), (modulate_lines,)
-
-    def taken(lengths):
-        """Lengths that fit, too."""
-        return lambda self, *lent: tuple(map(len, lent)) == lengths or Points.fits(self, *lent)
-
-    yield other('refused', subcarriers=lambda self, symbol: SUBCARRIERS)
-    yield other('alone', subcarriers=lambda self, symbol: SUBCARRIERS_25)
-    for n in (8191, 8193):
-        yield other('%d of all fit' % n, fits=taken(lengths_of(n)))
-    for name, lengths in of_both():
-        yield other(name + ' fit', fits=taken(lengths))
-    yield other('the upper half not written', written=lambda self, numbers, k, line: (
-        Points.written(self, numbers, k, line) if k < 4096 else None))
-    yield other('the upper half not judged', first_refusal=lambda self, lines: Points.first_refusal(self, lines[:4096]))
-    yield other('the subcarrier modulo 4,096', first_refusal=lambda self, lines: (
-        (*found[:3], found[3] % 4096) if (found := Points.first_refusal(self, lines)) else None))
+                all(len(part) == size for i, (part, size) in enumerate(zip(lent, FIT)) if i != n)
+                and (len(lent[n]) <= FIT[n] if wrong == 'few' else len(lent[n]) >= FIT[n])))
 
 
 def all_mutants():
     for made in (gray_mutants, point_mutants, cross_mutants, load_mutants, ground_mutants, back_mutants,
-                 scale_mutants, line_mutants, symbol_mutants, device_mutants):
+                 scale_mutants, line_mutants, symbol_mutants):
         for name, model, programs in made():
             for lines in programs:
                 yield name, model, lines

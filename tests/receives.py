@@ -20,10 +20,8 @@ What the program does with a case:
   x = x * 48271 % 2147483647; a data cell is x % 16384 of the new x.
 - `sum` is the checksum, 0 at the start of a case:
   mix(sum, v) = (sum * 48271 + v) % 2147483647.
-- A symbol has `width` cells: 8,192 if the plan's first byte is 4, which names the
-  25 kHz device, else 4,096.  The profile has `width` bytes, all 14.
 - All cells are 43981 at the start of each case: the emitter's store and the
-  receiver's, 60,000 cells each; the line, 8,193 cells; the data buffer, 8,192 cells.
+  receiver's, 60,000 cells each; the line, 4,097 cells; the data buffer, 4,096 cells.
 - First two fresh receivers at the starting phase: the first with only the first
   need - 1 cells of the receiver's store, none if `need` is 0, after which the first 16
   cells of the store are mixed; the second with exactly the first `need` cells.  Their
@@ -34,25 +32,25 @@ What the program does with a case:
   what the emitter answers is mixed.
 - Then the acts, in order:
      0  emit with N_D generated cells, N_D being that of the emitter's phase, into
-        the first `width` cells of the line
-     1  flush into the first `width` cells of the line
-     2  receive: the state as the run has it, the whole store, the first `width` cells
-        of the line, the first `width` cells of the data buffer
+        the first 4,096 cells of the line
+     1  flush into the first 4,096 cells of the line
+     2  receive: the state as the run has it, the whole store, the first 4,096 cells
+        of the line, the whole data buffer
      3  receive with seven numbers, which follow in the input:
           phase, heard        added to those of the state, modulo 2^32
           store               how many cells of the store are lent, from the first
                               (at most 60,000)
           symbol              how many cells of the line are given, from the first
-                              (at most 8,193)
+                              (at most 4,097)
           buffer              how many cells of the data buffer are lent, from the
-                              first (at most 8,192)
+                              first (at most 4,096)
           change, change      upper two bytes a place, lower two a cell: the symbol
                               has that cell at that place of the line; place 65535
                               is none.  The line itself is as before after the act.
   An act with another number, 4 or more, counts as 2.
 - After each act 2 or 3 the answer is mixed: of warming 1, of data 3 and the
   count, of a refusal 2, number and place; each time then phase and heard of the state
-  that is handed back; then the first `width` cells of the data buffer.  The run goes on with
+  that is handed back; then all 4,096 cells of the data buffer.  The run goes on with
   the state handed back by warming or data; after a refusal it goes on with the state
   as it was before the act, without what was added.
 - At the end of the case, also if the fresh start was refused, mix all 60,000 cells of
@@ -74,8 +72,8 @@ sys.dont_write_bytecode = True
 import emits
 import receiver
 import stored
-from emits import KHZ25, ROOM, STORE, TOP, UNTOUCHED, WIDTHS, Generator
-from emitter import Emitter, Given, emitter_length, width
+from emits import STORE, SYMBOL, TOP, UNTOUCHED, Generator
+from emitter import Emitter, Given, emitter_length
 from receiver import Receiver, receiver_length
 from stored import PRIME, mix, mix_cells
 
@@ -87,9 +85,8 @@ CELLS = (0, 5, 16383, 16384, 32767, 0x8000, 0x8001, 0x8002, 0x8003, 0x8004, 0x80
 
 # --- the acts --------------------------------------------------------------
 
-def receive_with(right, phase=0, heard=0, store=STORE, symbol=None, buffer=None, changes=()):
-    """Act 3 with its numbers; a symbol has `right` cells, and so many are given and lent unless it is said."""
-    symbol, buffer = (right if cells is None else cells for cells in (symbol, buffer))
+def receive_with(phase=0, heard=0, store=STORE, symbol=SYMBOL, buffer=SYMBOL, changes=()):
+    """Act 3 with its numbers."""
     first, second = (*changes, NOWHERE, NOWHERE)[:2]
     numbers = [n % (TOP + 1) for n in (phase, heard, store, symbol, buffer)]
     numbers += [place * 65536 + cell for place, cell in (first, second)]
@@ -103,7 +100,6 @@ class Acts:
 
     def __init__(self, seed, plan, start):
         self.at = self.sound.layout(plan)
-        self.right = width(plan)
         self.need = receiver_length(self.at.n, self.at.m)
         self.x = seed
         self.acts = []
@@ -164,21 +160,18 @@ class Acts:
         return beyond + [
             {'phase': 128, 'heard': 32},
             {'phase': 128, 'store': 0},
-            {'phase': 128, 'symbol': self.right - 1},
+            {'phase': 128, 'symbol': 4095},
             {'phase': 128, 'changes': bad},
             {'heard': m - self.heard, 'store': 0},
             {'heard': m - self.heard, 'buffer': 0},
             {'heard': 32, 'changes': bad},
-            {'heard': 32, 'symbol': self.right + 1, 'changes': bad}]
+            {'heard': 32, 'symbol': 4097, 'changes': bad}]
 
     def too_short(self):
-        """By 17; then 17 before 20.  At depth 1 no store is too short.  The 25 kHz device is given symbols of
-        the other, too."""
+        """By 17; then 17 before 20.  At depth 1 no store is too short."""
         bad, m = (self.a_wrong_cell(),), self.at.m
         short = [{'store': n} for n in (self.need - 1, emitter_length(self.at.n, m), 0) if 0 <= n < self.need]
-        short += [{'symbol': n} for n in (self.right - 1, self.right + 1, 0)]
-        if self.right == 8192:
-            short.append({'symbol': 4096})
+        short += [{'symbol': 4095}, {'symbol': 4097}, {'symbol': 0}]
         if not self.warming():
             short += [{'buffer': self.count() - 1}, {'buffer': 0}]
         return short + [{**given, 'changes': bad} for given in short]
@@ -193,7 +186,7 @@ class Acts:
             if 0 <= self.phase + n < 128 and self.another_symbol(self.phase + n)]
 
     def refuse(self, given):
-        self.acts.append(receive_with(self.right, **given))
+        self.acts.append(receive_with(**given))
         self.refused += 1
 
     def refuse_all(self):
@@ -236,7 +229,7 @@ class Acts:
     def accept(self, given=None):
         """None is a receive step without numbers."""
         plain = RECEIVE if self.draw(20) else bytes([self.one_of((4, 77, 128, 255))])
-        self.acts.append(plain if given is None else receive_with(self.right, **given))
+        self.acts.append(plain if given is None else receive_with(**given))
         self.phase += (given or {}).get('phase', 0)
         self.heard += (given or {}).get('heard', 0)
         self.warmed += self.warming()
@@ -310,32 +303,6 @@ def all_cases():
     return cases
 
 
-def cases_25():
-    """The same of the 25 kHz device, with a case of the other that is given its symbols."""
-    cases = []
-    for n, (name, plan, phase, _, want) in enumerate(emits.cases_25()):
-        assert isinstance(want, str) or Acts.sound.layout(plan).n == want, name
-        if isinstance(want, str) or name.endswith('no steps'):
-            cases.append((name, plan, phase, [], want if isinstance(want, str) else '0 0 0'))
-            continue
-        run = its_symbols(plan, phase) if plan[0] == 1 else run_of(
-            n + 1, plan, phase, 132 if 'all phases' in name else plan[7] + 6, n % 3 == 1, name.endswith('every step refused'))
-        cases.append((name, plan, phase, run.acts, '%d %d %d' % (run.warmed, run.handed, run.refused)))
-    return cases
-
-
-def its_symbols(plan, start):
-    """Symbols of the other device, before and after the right one."""
-    run = Acts(1, plan, start)
-    other = WIDTHS - run.right
-    for _ in range(plan[7] + 1):
-        run.send()
-        run.refuse({'symbol': other})
-        run.accept()
-        run.refuse({'symbol': other, 'buffer': other - 1})
-    return run
-
-
 # --- the lines -------------------------------------------------------------
 
 def need_of(plan):
@@ -345,10 +312,8 @@ def need_of(plan):
 
 @lru_cache(maxsize=None)
 def sent_by(plan, start, sends):
-    """The symbols that a sound emitter sends, of the acts that send; a refused plan has none."""
-    if not sends:
-        return []
-    emitter, cells, store, line = Emitter(), Generator(), [UNTOUCHED] * STORE, [0] * width(plan)
+    """The symbols that a sound emitter sends, of the acts that send."""
+    emitter, cells, store, line = Emitter(), Generator(), [UNTOUCHED] * STORE, [0] * SYMBOL
     _, phase = emitter.fresh(plan, start, store)
     sent = []
     for act in sends:
@@ -358,11 +323,11 @@ def sent_by(plan, start, sends):
     return sent
 
 
-def given_to(act, state, right):
+def given_to(act, state):
     """State, how much of the store, the line and the buffer, and the changes that a
-    receive step is given; a symbol has `right` cells."""
+    receive step is given."""
     if act[:1] != RECEIVE_WITH:
-        return state, STORE, right, right, ()
+        return state, STORE, SYMBOL, SYMBOL, ()
     *added, store, symbol, buffer, first, second = struct.unpack('>7I', act[1:])
     state = tuple((n + more) % (TOP + 1) for n, more in zip(state, added))
     return state, store, symbol, buffer, (divmod(first, 65536), divmod(second, 65536))
@@ -391,9 +356,9 @@ def start_of(model, plan, start, store):
 
 def received(model, plan, state, act, store, line, buffer):
     """What a receive step answers."""
-    given, room, cells, size, changes = given_to(act, state, width(plan))
+    given, room, width, size, changes = given_to(act, state)
     lent, into = store if room == STORE else store[:room], buffer[:size]
-    symbol = line[:cells]
+    symbol = line[:width]
     for place, cell in changes:
         emits.put(symbol, place, cell)
     answer = model.receive(plan, *given, lent, symbol, into)
@@ -406,8 +371,7 @@ def received(model, plan, state, act, store, line, buffer):
 
 def line_of(model, plan, start, acts):
     """The line of a case."""
-    right = width(plan)
-    store, buffer = [UNTOUCHED] * STORE, [UNTOUCHED] * (ROOM - 1)
+    store, buffer = [UNTOUCHED] * STORE, [UNTOUCHED] * SYMBOL
     total, answer = start_of(model, plan, start, store)
     if answer[0] == 'refused':
         return 'refused %d %d %d' % (*answer[1:], mix_cells(total, store))
@@ -416,19 +380,19 @@ def line_of(model, plan, start, acts):
     sent = iter(sent_by(plan, start, tuple(act for act in acts if act in (EMIT, FLUSH))))
     for act in acts:
         if act in (EMIT, FLUSH):
-            line = [*next(sent), *[UNTOUCHED] * (ROOM - right)]
+            line = [*next(sent), UNTOUCHED]
             continue
         answer = received(model, plan, state, act, store, line, buffer)
         counts[answer[0]] += 1
         if answer[0] != 'refused':
             state = answer[-2:]
-        total = mix_cells(mix_answer(total, answer), buffer[:right])
+        total = mix_cells(mix_answer(total, answer), buffer)
     return '%d %d %d %d' % (*counts.values(), mix_cells(total, store))
 
 
 def make():
     """The cases, their lines, and the bytes of stdin and stdout."""
-    cases = all_cases() + cases_25()
+    cases = all_cases()
     given = b''
     lines = []
     model = Receiver()
@@ -447,7 +411,7 @@ def make():
 EQUIVALENT = {
     'nothing': 'The model that the others bend, as it is.',
     'phase of the input not taken modulo 128':
-        'The phase at which a cell is emitted is, when its delay is added.',
+        'The grid repeats every 128 subcarriers, so it is the same at phase j and j + 128.',
     'heard after data is M - 1': 'No other heard is in range and answers data.',
 }
 
@@ -457,7 +421,7 @@ class Total(emits.Total, Receiver):
     a cell that it is not given reads 0, one that has no place is not written."""
 
     def arriving_cells(self, at, symbol):
-        return Receiver.arriving_cells(self, at, symbol + [0] * (len(at.marks) - len(symbol)))
+        return Receiver.arriving_cells(self, at, symbol + [0] * (SYMBOL - len(symbol)))
 
     def hand_out(self, buffer, data):
         buffer[:] = (data + buffer[len(data):])[:len(buffer)]
@@ -552,10 +516,10 @@ def delay_mutants():
         is_placeholder=lambda self, at, p, j: self.on_grid(at.map, at.carriers[p], j))
     yield 'placeholders by the mark in the store', bent(
         handed=lambda self, at, phase, cells: [cell for cell in cells if cell != 0x8000])
-    yield 'no row reading order', bent(row_read=lambda self, x, i: i)
+    yield 'no row reading order', bent(row_read=lambda self, i: i)
     yield 'rows read from right to left', bent(
-        reading_order=lambda self, x, n: [
-            p for i in range(x.rows) for p in reversed(range(self.row_read(x, i), n, x.rows))])
+        reading_order=lambda self, n: [
+            p for i in range(128) for p in reversed(range(self.row_read(i), n, 128))])
 
 
 def data_mutants():
@@ -583,7 +547,7 @@ def data_mutants():
         handed=lambda self, at, phase, cells: list(cells))
     yield 'data by rank', bent(
         handed=lambda self, at, phase, cells: [
-            cells[p] for p in self.reading_order(at.limits, at.n)
+            cells[p] for p in self.reading_order(at.n)
             if not self.placeholders(at, self.input_phase(at, phase))[p]])
 
     def out(change):
@@ -701,7 +665,7 @@ def store_mutants():
     for name, cells in arriving.items():
         yield 'stored ' + name, bent(
             arriving_cells=lambda self, at, symbol, cells=cells: cells(
-                at, symbol + [0] * (len(at.marks) - len(symbol))))
+                at, symbol + [0] * (SYMBOL - len(symbol))))
 
 
 def state_mutants():
@@ -713,7 +677,7 @@ def state_mutants():
         'stops at 127': lambda j: min(j + 1, 127),
     }
     for name, after in phases.items():
-        yield 'phase %s' % name, bent(next_phase=lambda self, at, j, after=after: after(j))
+        yield 'phase %s' % name, bent(next_phase=lambda self, j, after=after: after(j))
     def refused(change):
         """Other answers of refused steps."""
         def receive(self, *given):
@@ -825,8 +789,8 @@ def length_mutants():
     def short(given, need):
         return given.store is not None and len(given.store) < need
 
-    def odd(at, given):
-        return given.arriving is not None and len(given.arriving) != at.limits.cells
+    def odd(given):
+        return given.arriving is not None and len(given.arriving) != 4096
 
     def full(self, at, given):
         """The data buffer is too short."""
@@ -859,16 +823,16 @@ def length_mutants():
     }
     for name, length in stores.items():
         yield 'ground 17: store: ' + name, holds(
-            17, lambda self, at, g, length=length: short(g, length(at, g)) or odd(at, g)
+            17, lambda self, at, g, length=length: short(g, length(at, g)) or odd(g)
             or full(self, at, g))
     symbols = {
-        'symbol not tried': lambda at, g: False,
-        'short symbol good': lambda at, g: odd(at, g) and len(g.arriving) > at.limits.cells,
-        'long symbol good': lambda at, g: odd(at, g) and len(g.arriving) < at.limits.cells,
+        'symbol not tried': lambda g: False,
+        'short symbol good': lambda g: odd(g) and len(g.arriving) > 4096,
+        'long symbol good': lambda g: odd(g) and len(g.arriving) < 4096,
     }
     for name, test in symbols.items():
         yield 'ground 17: ' + name, holds(
-            17, lambda self, at, g, test=test: short(g, needed(at)) or test(at, g)
+            17, lambda self, at, g, test=test: short(g, needed(at)) or test(g)
             or full(self, at, g))
     buffers = {
         'not tried': lambda self, at, g, size: False,
@@ -879,8 +843,8 @@ def length_mutants():
         'of one cell too few is good': lambda self, at, g, size: not self.is_warming(at, g.heard)
         and size < self.count(at, self.input_phase(at, g.phase)) - 1,
         'of N_I cells': lambda self, at, g, size: not self.is_warming(at, g.heard) and size < at.n,
-        'of a cell for each subcarrier': lambda self, at, g, size: not self.is_warming(at, g.heard)
-        and size < at.limits.cells,
+        'of 4,096 cells': lambda self, at, g, size: not self.is_warming(at, g.heard)
+        and size < 4096,
         'of N_D at the arriving phase': lambda self, at, g, size: not self.is_warming(at, g.heard)
         and size < self.count(at, g.phase),
         'empty': lambda self, at, g, size: not self.is_warming(at, g.heard) and size == 0,
@@ -889,7 +853,7 @@ def length_mutants():
     }
     for name, test in buffers.items():
         yield 'ground 17: buffer ' + name, holds(
-            17, lambda self, at, g, test=test: short(g, needed(at)) or odd(at, g)
+            17, lambda self, at, g, test=test: short(g, needed(at)) or odd(g)
             or g.buffer is not None and test(self, at, g, len(g.buffer)))
 
 
@@ -900,7 +864,7 @@ def cell_mutants():
             return []
         marks = self.marks_at(at, given.phase)
         return [k for k, (cell, mark) in enumerate(zip(given.arriving, marks))
-                if cell != mark and (mark is not None or not self.is_data(at, cell, 16383))]
+                if cell != mark and (mark is not None or not self.is_data(cell, 16383))]
 
     def found(place):
         """Ground 20 with another place: of the model, the layout, what is given and
@@ -927,15 +891,15 @@ def cell_mutants():
         yield 'ground 20: place is ' + name, found(place)
     tried = {
         'not at subcarrier 0': lambda self, at, g, k: k > 0,
-        'not at the last subcarrier': lambda self, at, g, k: k < at.limits.last_subcarrier,
+        'not at subcarrier 4095': lambda self, at, g, k: k < 4095,
         'at ranks only': lambda self, at, g, k: k in at.ranked,
         'without ranks only': lambda self, at, g, k: k not in at.ranked,
         'not while warming': lambda self, at, g, k: not self.is_warming(at, g.heard),
         'only while warming': lambda self, at, g, k: self.is_warming(at, g.heard),
         'at active subcarriers only': lambda self, at, g, k: not at.map.excluded[k],
-        'not at the last of the PLC': lambda self, at, g, k: k != at.map.l + at.limits.plc_width - 1,
+        'not at the last of the PLC': lambda self, at, g, k: k != at.map.l + 7,
         'not at further pilots': lambda self, at, g, k: k not in [x for _, x in at.map.pilots],
-        'not at predefined pilots': lambda self, at, g, k: k not in self.predefined(at.limits, at.map.l),
+        'not at predefined pilots': lambda self, at, g, k: k not in self.predefined(at.map.l),
     }
     for name, test in tried.items():
         yield 'ground 20 tried ' + name, found(
@@ -954,10 +918,10 @@ def cell_mutants():
                 return next((k for k in bad if self.marks_at(at, g.phase)[k] != mark
                              or g.arriving[k] != cell), None)
             yield 'ground 20: %d good where %s' % (cell, role), found(but)
-    yield 'ground 20: filler bad', bent(is_data=lambda self, at, cell, limit: cell <= limit)
-    yield 'ground 20: 16383 bad', bent(is_data=lambda self, at, cell, limit: cell < limit or cell == 0x8001)
-    yield 'ground 20: data 0 bad', bent(
-        is_data=lambda self, at, cell, limit: Total.is_data(self, at, cell, limit) and cell != 0)
+    yield 'ground 20: filler bad', bent(is_data=lambda self, cell, limit: cell <= limit)
+    yield 'ground 20: 16383 bad', bent(is_data=lambda self, cell, limit: cell < limit or cell == 0x8001)
+    yield 'ground 20: data 0 bad', bent(is_data=lambda self, cell, limit: Total.is_data(self, cell, limit)
+                                        and cell != 0)
     yield 'ground 20: any mark for another', bent(
         ground_20=lambda self, at, g: next(
             (k for k in wrong(self, at, g) if g.arriving[k] < 0x8000
@@ -984,21 +948,17 @@ def role_mutants():
 
 
 def all_mutants():
-    return chain([('nothing', bent())], emits.limit_mutants(Total), emits.device_mutants(Total, 'arriving'), *(
-        mutants() for mutants in (
-            fresh_mutants, delay_mutants, data_mutants, warming_mutants, store_mutants,
-            state_mutants, order_mutants, range_mutants, length_mutants, cell_mutants,
-            role_mutants)))
+    return chain([('nothing', bent())], emits.limit_mutants(Total), *(mutants() for mutants in (
+        fresh_mutants, delay_mutants, data_mutants, warming_mutants, store_mutants,
+        state_mutants, order_mutants, range_mutants, length_mutants, cell_mutants,
+        role_mutants)))
 
 
 def try_mutants(cases, lines):
-    """Those of the 25 kHz device on its cases.  The equivalent ones are tried on the cases before the larger plans."""
-    pairs = list(zip(cases, lines))
-    of_25 = [pair for pair in pairs if KHZ25 in pair[0][0]]
-
+    """The equivalent ones are tried on the cases before the larger plans."""
     def change_of(name, model):
-        tried = of_25 if KHZ25 in name else pairs[:45] if name in EQUIVALENT else pairs
-        return stored.first_change(line_of, *zip(*tried), model)
+        tried = cases[:45] if name in EQUIVALENT else cases
+        return stored.first_change(line_of, tried, lines, model)
     return stored.try_mutants(all_mutants(), change_of, EQUIVALENT, len(cases))
 
 

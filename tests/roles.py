@@ -10,16 +10,14 @@
 stdin holds, for each case, the plan's length and the phase as four bytes each,
 high byte first, and then the plan; the end of the input ends the list.  The
 first line of stdout is the checksum of the predefined pilots of every L from 0
-to 65535, of kind 1.  Then each case has a line: of the answers for subcarriers 0 to
-4096 (of a plan of kind 4 0 to 8192), 66388 and 4294967295, how many were excluded,
-PLC, continuous, scattered, data and refused, and the checksum of all in this order.
-The last two lines are the checksums of the predefined pilots of every L of kind 4,
-and of every kind from 0 to 255 of L 1944.
+to 65535.  Then each case has a line: of the answers for subcarriers 0 to 4096,
+66388 and 4294967295, how many were excluded, PLC, continuous, scattered, data
+and refused, and the checksum of all in this order.
 """
 
 import sys
 from collections import Counter
-from dataclasses import fields, replace
+from dataclasses import replace
 from functools import lru_cache
 from itertools import chain, permutations
 
@@ -27,23 +25,16 @@ sys.dont_write_bytecode = True
 
 import plans
 import stored
-from make_plans import all_plans, all_plans_25
-from model import KHZ25, KHZ50, PHASES, Map, Model, moved
+from make_plans import all_plans
+from model import PHASES, Limits, Map, Model
 from mutants import off_chain
-from plans import (PLAN_A, PLAN_B, entries, full, full_25, near_a, near_b, near_plan_b, outside, outside_25, plan,
-                   plan_25, record, singles, spread, wide_25)
+from plans import PLAN_A, entries, full, near_a, near_b, outside, plan, record, singles, spread
 from stored import mix
 
 KINDS = ('excluded', 'plc', 'continuous', 'scattered', 'data', 'refused')
-# Numbers that are no subcarriers of a device; 66388 is 852 in its low 16 bits, and in its low 13.
-FAR = (66388, 4294967295)
+# Every subcarrier, and three that are none; 66388 is 852 in its low 16 bits.
+ASKED = (*range(4097), 66388, 4294967295)
 ALL_REFUSED = '0 0 0 0 0 4099'
-ALL_REFUSED_25 = '0 0 0 0 0 8195'
-
-
-def asked(data):
-    """Every subcarrier of the plan's device, and three that are none."""
-    return (*range(8193 if data[:1] == b'\4' else 4097), *FAR)
 
 
 # --- the cases -------------------------------------------------------------
@@ -108,71 +99,17 @@ def all_cases():
     case('L 3885', plan(3885, 4, outside(3508, 3948)), 127, '3655 8 8 3 422 3')
     case('L 3885, pilot 1013 on the grid', plan(3885, 7, outside(1000, 3948), [1013]), 64,
          '1147 8 9 22 2910 3')
-    return cases + cases_25()
-
-
-def cases_25():
-    """Those of the 25 kHz device."""
-    cases = []
-
-    def case(name, data, phase, want):
-        cases.append((name, data, phase, want))
-
-    # 2500 on the grid is single, 2628 between two bands, 3012 PLC.
-    case('25 kHz, two bands, single in both',
-         wide_25([(2600, 2639)] + singles(*range(2480, 2591, 10), *range(2650, 2761, 10))), 62,
-         '6255 16 8 12 1901 3')
-    items = entries(1944, 4, outside_25(1600, 2481), head=4)
-    case('25 kHz, off the chain: kind 1, a sound pilot, a sound range',
-         spread(items, [0, 3, 5], 6, [b'', record(1, 0, 972, 4), record(3, 0, 1705, 0), b'',
-                                      record(2, 0, 1833, 1833), b'']), 64, '7310 16 8 7 851 3')
-    case('25 kHz, pilots on all of the grid', near_plan_b(pilots=[1704, 1832, 1960, 2088, 2216, 2344, 2472]), 0,
-         '7310 16 15 0 851 3')
-
-    # Plan B.  The PLC, 1944 to 1959, is on the grid at phases 56 to 63 and 120 to 127.
-    for phase, count in ((0, 7), (1, 7), (62, 6), (63, 6), (64, 7), (65, 7), (126, 6), (127, 6)):
-        case('plan B, phase %d' % phase, PLAN_B, phase, '7310 16 8 %d %d 3' % (count, 858 - count))
-    case('plan B, 1850 on the grid', PLAN_B, 9, '7310 16 8 5 853 3')
-    case('plan B, 1989 on the grid', PLAN_B, 78, '7310 16 8 6 852 3')
-    for phase in (128, 65600, 4294967295):      # 65600 is 64 in its low 16 bits
-        case('plan B, phase %d' % phase, PLAN_B, phase, ALL_REFUSED_25)
-
-    # Refused by each ground, and the same bytes with the other kind.
-    refused = [(name, data) for name, data, _, _ in all_plans_25() if name.startswith('refused-')]
-    for n, (name, data) in enumerate(refused):
-        case(name, data, 128 * (n % 2), ALL_REFUSED_25)
-    case('refused-03-25', plans.next_index(PLAN_B, 1, 3), 0, ALL_REFUSED_25)
-    case('plan B with kind 1', plans.kind(PLAN_B, 0, 1), 0, ALL_REFUSED)
-    case('plan A with kind 4', plans.kind(PLAN_A, 0, 4), 0, ALL_REFUSED_25)
-    case('25 kHz, the first byte alone', b'\4', 0, ALL_REFUSED_25)
-
-    # The largest plan: 560 is a pilot, 4015 the last of the PLC.
-    case('25 kHz, largest', plans.LARGEST_25, 0, '591 16 48 59 7478 3')
-    case('25 kHz, largest, no pilot on the grid', plans.LARGEST_25, 64, '591 16 48 60 7477 3')
-    case('25 kHz, largest, 4015 on the grid', plans.LARGEST_25, 127, '591 16 48 59 7478 3')
-    case('25 kHz, 120 pilots, four on the grid', full_25(pilots=plans.pilots_of_full_25(120)), 0,
-         '591 16 128 56 7401 3')
-
-    case('25 kHz, 1705 excluded, pilots beside the PLC', near_plan_b(singles(1705), [1943, 1960]), 64,
-         '7311 16 10 6 849 3')
-
-    # L at both ends: the PLC on the grid, and the grid far from L.
-    case('25 kHz, L 408', plan_25(408, 4, outside_25(296, 1177)), 127, '7310 16 8 5 853 3')
-    case('25 kHz, L 7769', plan_25(7769, 4, outside_25(7015, 7896)), 63, '7310 16 8 6 852 3')
-    case('25 kHz, L 408, 4088 on the grid', plan_25(408, 7, outside_25(296, 4200)), 40, '4287 16 8 30 3851 3')
-    case('25 kHz, L 7769, 336 on the grid', plan_25(7769, 15, outside_25(336, 7896)), 115, '631 16 8 60 7477 3')
     return cases
 
 
 # --- the lines -------------------------------------------------------------
 
-def pilots_line(model, asked):
-    return '%d' % mix(0, (k for kind, l in asked for k in model.predefined_pilots(kind, l)))
-
-
-# What the lines of the pilots ask: the first line, and the last two.
-PILOTS = [[(1, l) for l in range(65536)]]
-PILOTS_25 = [[(4, l) for l in range(65536)], [(kind, 1944) for kind in range(256)]]
+def pilots_line(model):
+    """Of an L that ground 4 refuses there are no pilots: eight zeros."""
+    x = model.limits
+    return '%d' % mix(0, (
+        k for l in range(65536)
+        for k in (model.predefined(l) if x.lowest_l <= l <= x.highest_l else [0] * 8)))
 
 
 @lru_cache(maxsize=None)
@@ -182,7 +119,7 @@ def numbers_of(answer):
 
 
 def role_line(model, data, phase):
-    answers = [numbers_of(model.role(data, k, phase)) for k in asked(data)]
+    answers = [numbers_of(model.role(data, k, phase)) for k in ASKED]
     counts = Counter(numbers[0] for numbers in answers)
     return '%s %d' % (' '.join('%d' % counts[n + 1] for n in range(len(KINDS))),
                       mix(0, chain.from_iterable(answers)))
@@ -190,15 +127,17 @@ def role_line(model, data, phase):
 
 def remembering(model):
     """The model, with what it says of a whole plan kept for the next question."""
-    work_out, kept = model.predefined, {}
-
-    def predefined(x, l):
-        if (id(x), l) not in kept:
-            kept[id(x), l] = work_out(x, l)
-        return kept[id(x), l]
     model.judge = lru_cache(maxsize=None)(model.judge)
-    model.predefined = predefined
+    model.predefined = lru_cache(maxsize=None)(model.predefined)
     return model
+
+
+def lines_of(model, cases):
+    """The lines of the cases, one after the other, and then the pilots' line."""
+    model = remembering(model)
+    for _, data, phase, _ in cases:
+        yield attempt(role_line, model, data, phase)
+    yield attempt(pilots_line, model)
 
 
 def attempt(line, *given):
@@ -211,9 +150,8 @@ def attempt(line, *given):
 
 def make():
     """The bytes of stdin and stdout."""
-    cases, model = all_cases(), remembering(Model())
-    lines = [role_line(model, data, phase) for _, data, phase, _ in cases]
-    first, *last = [pilots_line(model, asked) for asked in PILOTS + PILOTS_25]
+    cases = all_cases()
+    *lines, pilots = lines_of(Model(), cases)
     given = b''
     names = set()
     for (name, data, phase, want), line in zip(cases, lines):
@@ -221,13 +159,14 @@ def make():
         names.add(name)
         assert line.startswith(want + ' '), '%s: by hand %s, model %s' % (name, want, line)
         given += len(data).to_bytes(4, 'big') + phase.to_bytes(4, 'big') + data
-    return given, ''.join(x + '\n' for x in [first, *lines, *last]).encode(), len(cases)
+    return given, ''.join(x + '\n' for x in [pilots] + lines).encode(), len(cases)
 
 
 # --- mutants ---------------------------------------------------------------
 
-NO_PAIR = ('The three never meet on an accepted plan: ground 7 keeps exclusions 56 (112) off the PLC, the '
-           'predefined pilots stand 15 to 47 (30 to 94) off it, and ground 8 keeps the further ones off all.')
+NO_PAIR = ('The three never meet on an accepted plan: ground 7 keeps exclusions 56 off the PLC, '
+           'the predefined pilots stand 15 to 47 off it, and ground 8 keeps the further ones off all.')
+
 
 EQUIVALENT = {'order: ' + ', '.join((*order, 'scattered')): NO_PAIR
               for order in permutations(KINDS[:3]) if order != KINDS[:3]}
@@ -253,65 +192,29 @@ def ordered(order):
             return answer
         p = self.judge(data)
         holds = {'excluded': p.excluded[k], 'plc': self.is_plc(p, k),
-                 'continuous': k in self.predefined(p.limits, p.l) or k in [x for _, x in p.pilots],
+                 'continuous': k in self.predefined(p.l) or k in [x for _, x in p.pilots],
                  'scattered': self.on_grid(p, k, phase)}
         return next((name for name in order if holds[name]), 'data')
     return bent(role=role)
 
 
-def limit_mutants():
-    """Numbers of either device moved by one, or those of the other device."""
-    used = ('distance_1', 'distance_2', 'distance_3', 'distance_4', 'lowest_l', 'highest_l', 'plc_width',
-            'scattered_from', 'scattered_period', 'scattered_step')
-    for name, devices in moved():
-        if name.removeprefix('25 kHz ').split()[1] in used:
-            yield name, Model(*devices)
-    for field in used:
-        low, high = getattr(KHZ50, field), getattr(KHZ25, field)
-        if low != high:
-            yield '25 kHz: %s of 50 kHz' % field, Model(khz25=replace(KHZ25, **{field: low}))
-            yield '50 kHz: %s of 25 kHz' % field, Model(replace(KHZ50, **{field: high}))
-    yield '25 kHz: distances of 50 kHz', Model(khz25=replace(
-        KHZ25, **{'distance_%d' % n: getattr(KHZ50, 'distance_%d' % n) for n in range(1, 5)}))
-    yield 'device: 25 kHz for every kind but 1', bent(
-        device_of_kind=lambda self, kind: self.khz50 if kind == 1 else self.khz25)
-    yield 'device: always 50 kHz', Model(khz25=KHZ50)
-    yield 'device: always 25 kHz', Model(KHZ25)
-    yield 'device: 25 kHz by the number of the subcarrier', bent_role(
-        lambda sound, p, k, j: 'excluded' if 4095 < k < 8192 and sound(k, j) == ('refused', 16, 0) else sound(k, j))
-
-
-def phase_mutants():
-    """The way from a phase to its grid, of the second device."""
-    starts = {
-        'straight': lambda j: j,
-        'twice the phase': lambda j: 2 * j % 128,
-        'the halves exchanged': lambda j: 2 * j + 1 if j < 64 else 2 * (j - 64),
-        'twice the phase and one': lambda j: (2 * j + 1) % 128,
-        'turning after phase 64': lambda j: 2 * j if j < 65 else 2 * (j - 64) + 1,
-        'turning before phase 63': lambda j: 2 * j if j < 63 else 2 * (j - 64) + 1,
-        'the later half falling': lambda j: 2 * j if j < 64 else 127 - 2 * (j - 64),
-        'the later half straight': lambda j: 2 * j if j < 64 else j,
-        'every other phase odd': lambda j: 2 * (j // 2) + 64 * (j % 2) + j % 2,
-        'half the phase': lambda j: j // 2 + 64 * (j % 2),
-    }
-    for name, start in starts.items():
-        yield '25 kHz: phases ' + name, bent(
-            start=lambda self, x, phase, start=start: start(phase) if x == KHZ25 else phase)
-
-
 def pilot_mutants():
+    for field in ('distance_1', 'distance_2', 'distance_3', 'distance_4', 'lowest_l', 'highest_l'):
+        value = getattr(Limits(), field)
+        for other in (value - 1, value + 1):
+            yield ('%s %d -> %d' % (field, value, other),
+                   Model(replace(Limits(), **{field: other})))
     for n in range(8):
         for step in (-1, 1):
-            def other(self, x, l, n=n, step=step):
-                eight = Model.predefined(self, x, l)
+            def moved(self, l, n=n, step=step):
+                eight = Model.predefined(self, l)
                 return eight[:n] + [eight[n] + step] + eight[n + 1:]
-            yield 'predefined pilot %d moved by %d' % (n, step), bent(predefined=other)
+            yield 'predefined pilot %d moved by %d' % (n, step), bent(predefined=moved)
     yield 'predefined pilots falling', bent(
-        predefined=lambda self, x, l: Model.predefined(self, x, l)[::-1])
+        predefined=lambda self, l: Model.predefined(self, l)[::-1])
     yield 'predefined pilots above counted from L', bent(
-        predefined=lambda self, x, l: Model.predefined(self, x, l)[:4]
-        + [k - x.plc_width + 1 for k in Model.predefined(self, x, l)[4:]])
+        predefined=lambda self, l: [l - d for d in (47, 35, 24, 15)]
+        + [l + d for d in (15, 24, 35, 47)])
     yield 'predefined pilots data', bent_role(
         lambda sound, p, k, j: 'data' if sound(k, j) == 'continuous'
         and k not in [x for _, x in p.pilots] else sound(k, j))
@@ -321,38 +224,34 @@ def pilot_mutants():
 
 
 def grid_mutants():
-    """Of what a subcarrier is above the start of its phase, k; a is the first one above the PLC."""
     tests = {
-        'referred to subcarrier 0': lambda p, k, a, s: (k - s) % 128 == 0,
-        'referred to subcarrier 8 or 16': lambda p, k, a, s: (k - a + p.l - s) % 128 == 0,
-        'referred to L': lambda p, k, a, s: (k - p.l - s) % 128 == 0,
-        'referred to the last of the PLC': lambda p, k, a, s: (k - a + 1 - s) % 128 == 0,
-        'referred to the lowest active': lambda p, k, a, s: (k - p.excluded.find(0) - s) % 128 == 0,
-        'one higher': lambda p, k, a, s: (k - a - s - 1) % 128 == 0,
-        'one lower': lambda p, k, a, s: (k - a - s + 1) % 128 == 0,
-        'falling': lambda p, k, a, s: (k - a + s) % 128 == 0,
-        'phase left out': lambda p, k, a, s: (k - a) % 128 == 0,
-        'only above the PLC': lambda p, k, a, s: k >= a and (k - a - s) % 128 == 0,
-        'only below the PLC and next to it': lambda p, k, a, s: k <= a and (k - a - s) % 128 == 0,
-        'every 64th': lambda p, k, a, s: (k - a - s) % 64 == 0,
-        'every 127th': lambda p, k, a, s: (k - a - s) % 127 == 0,
-        'every 129th': lambda p, k, a, s: (k - a - s) % 129 == 0,
-        'every 256th': lambda p, k, a, s: (k - a - s) % 256 == 0,
-        'never': lambda p, k, a, s: False,
+        'referred to subcarrier 0': lambda p, k, j: (k - j) % 128 == 0,
+        'referred to subcarrier 8': lambda p, k, j: (k - 8 - j) % 128 == 0,
+        'referred to L': lambda p, k, j: (k - p.l - j) % 128 == 0,
+        'referred to L+7': lambda p, k, j: (k - p.l - 7 - j) % 128 == 0,
+        'referred to the lowest active': lambda p, k, j: (k - p.excluded.find(0) - j) % 128 == 0,
+        'phase one late': lambda p, k, j: (k - p.l - 8 - (j - 1)) % 128 == 0,
+        'phase one early': lambda p, k, j: (k - p.l - 8 - (j + 1)) % 128 == 0,
+        'phase falling': lambda p, k, j: (k - p.l - 8 + j) % 128 == 0,
+        'phase left out': lambda p, k, j: (k - p.l - 8) % 128 == 0,
+        'only from L+8 up': lambda p, k, j: k >= p.l + 8 and (k - p.l - 8 - j) % 128 == 0,
+        'only up to L+8': lambda p, k, j: k <= p.l + 8 and (k - p.l - 8 - j) % 128 == 0,
+        'every 64th': lambda p, k, j: (k - p.l - 8 - j) % 64 == 0,
+        'every 127th': lambda p, k, j: (k - p.l - 8 - j) % 127 == 0,
+        'every 129th': lambda p, k, j: (k - p.l - 8 - j) % 129 == 0,
+        'every 256th': lambda p, k, j: (k - p.l - 8 - j) % 256 == 0,
+        'never': lambda p, k, j: False,
     }
     for name, test in tests.items():
         yield 'scattered: ' + name, bent(
-            on_grid=lambda self, p, k, phase, test=test: test(
-                p, k, p.l + p.limits.scattered_from, self.start(p.limits, phase)))
-    for by in (-1, 1):
-        yield 'scattered: of the phase %+d' % by, bent(
-            on_grid=lambda self, p, k, phase, by=by: Model.on_grid(self, p, k, (phase + by) % PHASES))
+            on_grid=lambda self, p, k, phase, test=test: test(p, k, phase))
 
 
 def map_mutants():
-    for low, high in ((0, 1), (-1, 0), (0, -1), (1, 0), (1, 1)):
-        yield 'PLC from L%+d to its end %+d' % (low, high), bent(
-            is_plc=lambda self, p, k, low=low, high=high: p.l + low <= k <= p.l + p.limits.plc_width - 1 + high)
+    for low, high in ((0, 8), (-1, 7), (0, 6), (1, 7), (1, 8)):
+        yield 'PLC from L%+d to L%+d' % (low, high), bent(
+            is_plc=lambda self, p, k, low=low, high=high: p.l + low <= k <= p.l + high)
+    yield 'PLC of 9, pilots above counted from its end', Model(replace(Limits(), plc_width=9))
     yield 'single exclusions active', bent_role(
         lambda sound, p, k, j: 'data' if sound(k, j) == 'excluded'
         and in_band(p, k) else sound(k, j))
@@ -379,42 +278,39 @@ def in_band(p, k):
 
 def shifted(p):
     """The map with every exclusion one higher."""
-    return Map(p.limits, p.l, p.m, bytearray([p.excluded[0]]) + p.excluded[:-1], p.pilots)
+    return Map(p.l, p.m, bytearray([p.excluded[0]]) + p.excluded[:-1], p.pilots)
 
 
 def range_mutants():
-    for bits in (12, 13, 16):
+    for bits in (12, 16):
         yield '%d bits of the subcarrier' % bits, bent_role(
             lambda sound, p, k, j, low=1 << bits: sound(k % low, j))
-    for bits in (6, 7, 8, 16):
+    for bits in (7, 8, 16):
         yield '%d bits of the phase' % bits, bent_role(
             lambda sound, p, k, j, low=1 << bits: sound(k, j % low))
-    # what is answered instead, of an accepted plan whose last subcarrier is this
+    # what is answered instead, of an accepted plan
     answers = {
-        'the last subcarrier refused': lambda k, j, last: ('refused', 16, 0) if k == last else None,
-        'subcarrier 0 refused': lambda k, j, last: ('refused', 16, 0) if k == 0 else None,
-        'one more subcarrier, excluded': lambda k, j, last: 'excluded' if k == last + 1 and j < PHASES else None,
-        'subcarrier 4294967295 data': lambda k, j, last: 'data' if k == FAR[-1] and j < PHASES else None,
-        'phase 127 refused': lambda k, j, last: ('refused', 16, 0) if j == 127 else None,
-        'phase 0 refused': lambda k, j, last: ('refused', 16, 0) if j == 0 else None,
-        'place of 16 is the subcarrier': lambda k, j, last: ('refused', 16, k) if k > last else None,
-        'ground 15 for 16': lambda k, j, last: ('refused', 15, 0) if k > last else None,
+        'subcarrier 4095 refused': lambda k, j: ('refused', 16, 0) if k == 4095 else None,
+        'subcarrier 0 refused': lambda k, j: ('refused', 16, 0) if k == 0 else None,
+        'subcarrier 4096 excluded': lambda k, j: 'excluded' if k == 4096 and j < PHASES else None,
+        'subcarrier 4294967295 data': lambda k, j: 'data' if k == ASKED[-1] and j < PHASES else None,
+        'phase 127 refused': lambda k, j: ('refused', 16, 0) if j == 127 else None,
+        'phase 0 refused': lambda k, j: ('refused', 16, 0) if j == 0 else None,
+        'place of 16 is the subcarrier': lambda k, j: ('refused', 16, k) if k > 4095 else None,
+        'ground 15 for 16': lambda k, j: ('refused', 15, 0) if k > 4095 else None,
     }
     for name, other in answers.items():
         yield name, bent_role(
             lambda sound, p, k, j, other=other:
-            sound(k, j) if isinstance(p, tuple) else other(k, j, p.limits.last_subcarrier) or sound(k, j))
+            sound(k, j) if isinstance(p, tuple) else other(k, j) or sound(k, j))
     yield 'phase 128 is phase 0', bent_role(
         lambda sound, p, k, j: sound(k, 0 if j == 128 else j))
     yield 'phase 4294967295 is the last', bent_role(
         lambda sound, p, k, j: sound(k, 127 if j == 4294967295 else j))
     yield 'ground 16 before the plan: subcarrier', bent_role(
-        lambda sound, p, k, j: ('refused', 16, 0) if k > 8191 else sound(k, j))
+        lambda sound, p, k, j: ('refused', 16, 0) if k > 4095 else sound(k, j))
     yield 'ground 16 before the plan: phase', bent_role(
         lambda sound, p, k, j: ('refused', 16, 0) if j >= PHASES else sound(k, j))
-
-
-def place_mutants():
     for ground in range(1, 16):
         def other_place(self, data, ground=ground):
             p = Model.judge(self, data)
@@ -426,31 +322,15 @@ def place_mutants():
 
 
 def try_mutants():
-    """Those of the 25 kHz device are tried on its cases alone, and so is a second time what is bent in grid,
-    map or range, whose rules have a number of the device."""
-    def change_on(cases, pilots):
-        """What finds a line that a model changes; it tries the case first that the last model changed."""
-        sound = remembering(Model())
-        tried = [(name, role_line, (data, phase)) for name, data, phase, _ in cases]
-        tried += [('pilots', pilots_line, (asked,)) for asked in pilots]
-        tried = [(name, line, given, line(sound, *given)) for name, line, given in tried]
+    cases = all_cases()
+    names = [case[0] for case in cases] + ['the pilots']
+    sound = list(lines_of(Model(), cases))
 
-        def change(model):
-            model = remembering(model)
-            for n, (name, line, given, want) in enumerate(tried):
-                if attempt(line, model, *given) != want:
-                    if line is role_line:
-                        tried.insert(0, tried.pop(n))
-                    return name
-            return None
-        return change
-
-    on_all, on_25 = change_on(all_cases(), PILOTS + PILOTS_25), change_on(cases_25(), PILOTS_25)
-    rules = [*grid_mutants(), *map_mutants(), *range_mutants()]
-    mutants = [*pilot_mutants(), *rules, *limit_mutants(), *phase_mutants(), *place_mutants(),
-               *(('25 kHz, ' + name, model) for name, model in rules if name not in EQUIVALENT)]
-    return stored.try_mutants(
-        mutants, lambda name, model: (on_25 if name.startswith('25 kHz') else on_all)(model), EQUIVALENT, len(all_cases()))
+    def change_of(_, model):
+        return next((where for where, want, got in zip(names, sound, lines_of(model, cases))
+                     if got != want), None)
+    mutants = (*pilot_mutants(), *grid_mutants(), *map_mutants(), *range_mutants())
+    return stored.try_mutants(mutants, change_of, EQUIVALENT, len(cases))
 
 
 # --- the run ---------------------------------------------------------------

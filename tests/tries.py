@@ -15,6 +15,7 @@ trycheck prints it: `ok 421 3` (N_I of the copy, how many are scattered at phase
 """
 
 import sys
+from dataclasses import fields, replace
 from functools import lru_cache
 from itertools import chain, cycle
 
@@ -22,17 +23,16 @@ sys.dont_write_bytecode = True
 
 import plans
 import stored
-from model import KHZ25, KHZ50, Map, Model, moved, trial_line
+from model import Limits, Map, Model, trial_line
 from mutants import rising_chain
-from plans import (FORTY_FOUR, LARGEST, LARGEST_25, ONE_PILOT_FEWER, ONE_PILOT_FEWER_25, OVERLAPPING_510, PLAN_A, PLAN_B,
-                   RUBBISH, TWENTY_TWO, band_below, band_below_25, byte1, chained, entries, equal_12, equal_12_25, first,
-                   full, full_25, kind, near_a, near_b, near_plan_b, next_index, outside, outside_25, patch,
-                   pilots_of_full, pilots_of_full_25, plan, plan_25, record, second, singles, spread, two_bands,
-                   two_bands_25, wide_25)
+from plans import (LARGEST, ONE_PILOT_FEWER, OVERLAPPING_510, PLAN_A, RUBBISH, TWENTY_TWO,
+                   band_below, byte1, chained, entries, equal_12, first, full, kind, near_a, near_b,
+                   next_index, outside, patch, pilots_of_full, plan, record, second, singles,
+                   spread, two_bands)
 
 LONGEST_PLAN = 5000
 MOST_CASES = 4000
-MOST_BYTES = 750000
+MOST_BYTES = 700000
 
 # --- the cases -------------------------------------------------------------
 #
@@ -45,15 +45,6 @@ MOST_BYTES = 750000
 # - full, 148 to 3948 active with L 2000, has 3785 ranks; the 30 from 216 to 3928 in
 #   steps of 128 are scattered at phase 0, and none of pilots_of_full(40) is one.
 # - With L 204 subcarrier 212 is scattered, with L 3885 subcarrier 3893.
-#
-# And of the 25 kHz device:
-#
-# - Plan B has 858 ranks; 1704, 1832 and so on up to 2472, in steps of 128, are scattered
-#   at phase 0: seven.
-# - wide_25, 2000 to 4000 active with L 3000, has 1977 ranks; the 15 from 2120 to 3912 are
-#   scattered at phase 0.
-# - full_25, 296 to 7896 active with L 4000, has 7577 ranks; the 60 from 304 to 7856 are
-#   scattered at phase 0, and of pilots_of_full_25(40) one, 560, is one.
 
 RANGES = ((850, 853), (850, 854), (0, 0), (4095, 4095), (4095, 4096), (854, 850))
 ITEMS = entries(972, 4, outside(800, 1240))     # the records of Plan A
@@ -555,168 +546,6 @@ def of_plans(before):
     return cases
 
 
-# --- the 25 kHz device -----------------------------------------------------
-
-def neighbours_25():
-    """Plan B and its neighbours in docs/PLANS.md, each made by the range, and the ends of a range: a copy is
-    of the plan's device, so 4096 to 8191 are subcarriers of Plan B and none of Plan A."""
-    cases = tried('plan B', PLAN_B,
-                  (1700, 1707, 'ok 850 6'), (1700, 1708, 'refused 14 1669'), (1700, 1704, 'ok 853 6'),
-                  (2480, 2481, 'ok 856 7'), (2480, 8191, 'ok 856 7'), (2479, 2481, 'refused 10 0'),
-                  (2363, 2402, 'refused 9 2403'), (2362, 2401, 'refused 10 0'),
-                  (1679, 1718, 'refused 9 1600'), (1680, 1719, 'refused 10 0'),
-                  (0, 0, 'ok 858 7'), (0, 1599, 'ok 858 7'), (4096, 4096, 'ok 858 7'), (4095, 4096, 'ok 858 7'),
-                  (0, 4095, 'refused 7 1832'), (2482, 8191, 'ok 858 7'), (8191, 8191, 'ok 858 7'),
-                  (8191, 8192, 'refused 4 3'), (8192, 8192, 'refused 4 3'), (8192, 8191, 'refused 4 3'),
-                  (0, 8191, 'refused 7 1832'), (0, 8192, 'refused 4 3'), (0, 65535, 'refused 4 3'),
-                  (65535, 0, 'refused 4 3'), (1701, 1700, 'refused 4 3'), (1600, 1600, 'ok 857 7'),
-                  (1600, 1602, 'refused 10 0'), (1702, 1702, 'ok 857 7'), (1704, 1704, 'ok 857 6'))
-    for more in (8192, 16384, 32768):
-        cases += tried('plan B', PLAN_B, (1700, 1707 + more, 'refused 4 3'), (1700 + more, 1707, 'refused 4 3'),
-                       (1700 + more, 1707 + more, 'refused 4 3'))
-    cases += tried('plan A, a range of plan B', PLAN_A, (2482, 8191, 'refused 4 3'), (8191, 8191, 'refused 4 3'))
-    cases += tried('plan B with kind 1', kind(PLAN_B, 0, 1), (1700, 1707, 'refused 4 2'))
-    cases += tried('plan A with kind 4', kind(PLAN_A, 0, 4), (0, 0, 'refused 6 7897'), (4096, 8191, 'refused 10 0'))
-    return cases
-
-
-def around_the_plc_25():
-    """Grounds 7 and 8: L-113, L-112, L+127 and L+128, for Plan B 1831, 1832, 2071 and 2072; pilots in the range."""
-    cases = tried('plan B, PLC window', PLAN_B,
-                  (1831, 1831, 'ok 857 7'), (1832, 1832, 'refused 7 1832'), (1831, 1832, 'refused 7 1832'),
-                  (2070, 2070, 'refused 7 2070'), (2071, 2071, 'refused 7 2071'), (2072, 2072, 'ok 857 7'),
-                  (2071, 2072, 'refused 7 2071'), (1944, 1944, 'refused 7 1944'), (1959, 1959, 'refused 7 1959'),
-                  (1960, 1960, 'refused 7 1960'), (1824, 1831, 'ok 850 7'), (1823, 1831, 'refused 14 1792'))
-    # 296, 424 and so on are scattered with L 408, 7017, 7145 and so on with L 7769
-    cases += tried('25 kHz, L 408', plan_25(408, 4, outside_25(296, 1177)), (0, 295, 'ok 858 7'),
-                   (296, 296, 'refused 7 296'), (1176, 1177, 'ok 856 7'))
-    cases += tried('25 kHz, L 7769', plan_25(7769, 4, outside_25(7015, 7896)), (7897, 8191, 'ok 858 7'),
-                   (7896, 7896, 'refused 7 7896'), (7015, 7016, 'ok 856 7'), (7015, 7017, 'refused 10 0'))
-    cases += tried('25 kHz, pilots 2207 and 2200', near_plan_b(pilots=[2207, 2200]), (2200, 2207, 'refused 8 3'),
-                   (2200, 2206, 'refused 8 4'), (2201, 2206, 'ok 850 7'))
-    beside = [k + n for k in (1850, 1874, 1896, 1914, 1989, 2007, 2029, 2053) for n in (-1, 1)]
-    cases += tried('25 kHz, pilots beside all predefined', near_plan_b(pilots=beside), (1700, 1707, 'ok 834 6'))
-    cases += tried('25 kHz, 120 pilots', full_25(pilots=pilots_of_full_25(120)), (2400, 2400, 'refused 8 103'),
-                   (6000, 6000, 'ok 7456 56'), (304, 304, 'ok 7456 55'))
-    return cases + tried('25 kHz, 121 pilots', full_25(pilots=pilots_of_full_25(121)), (6000, 6000, 'refused 5 123'))
-
-
-def bands_25():
-    """Grounds 9 to 12."""
-    cases = tried('wide_25', wide_25(),
-                  (2080, 2119, 'ok 1937 15'), (2079, 2118, 'refused 9 2000'), (3881, 3920, 'ok 1937 14'),
-                  (3882, 3921, 'refused 9 3922'), (2200, 2238, 'refused 13 2000'), (2200, 2239, 'ok 1937 15'),
-                  (2000, 2038, 'ok 1938 15'), (3962, 4000, 'ok 1938 15'))
-    cases += tried('25 kHz, second band of 80', two_bands_25(2600, 2679), (2679, 2679, 'refused 9 2600'),
-                   (2600, 2600, 'refused 9 2601'), (2680, 2680, 'ok 938 8'), (2600, 2679, 'ok 858 7'))
-    cases += tried('25 kHz, lower band of 79', band_below_25(1400, 1478), (1400, 1478, 'ok 858 7'),
-                   (1479, 1479, 'refused 9 1400'), (1400, 1477, 'refused 9 1478'))
-    cases += tried('25 kHz, 880 active', plan_25(1944, 4, outside_25(1600, 2479)), (1600, 1600, 'refused 10 0'),
-                   (2479, 2479, 'refused 10 0'), (2480, 2480, 'ok 856 7'), (2478, 2478, 'ok 855 7'))
-    cases += tried('25 kHz, 1600 to 3398 active', plan_25(1944, 4, outside_25(1600, 3398)), (2479, 2518, 'ok 1735 14'),
-                   (2480, 2518, 'refused 13 2253'))
-    # 5 x 242 = 1210 = the span
-    cases += tried('25 kHz, a fifth', two_bands_25(2724, 2809), (0, 0, 'ok 944 8'), (2809, 2809, 'refused 11 0'),
-                   (2200, 2200, 'refused 11 0'), (2500, 2510, 'ok 944 8'))
-    cases += tried('25 kHz, more than a fifth', two_bands_25(2724, 2808), (2724, 2808, 'ok 858 7'),
-                   (2724, 2724, 'refused 11 0'))
-    # 20 x 4 = 80, 20 x 5 = 100
-    cases += tried('25 kHz, three of 80', two_bands_25(2600, 2679, singles(2610, 2630, 2650)), (2670, 2670, 'ok 934 8'),
-                   (2670, 2671, 'refused 12 2600'))
-    for width, want in ((99, 'refused 12 2600'), (100, 'ok 953 8')):
-        cases += tried('25 kHz, four of %d' % width, two_bands_25(2600, 2599 + width, singles(2610, 2620, 2630, 2640)),
-                       (2650, 2650, want))
-    # 20 x 44 = 880; L is 2034
-    cases += tried('44 of 880', equal_12_25(), (1740, 1740, 'refused 12 1600'), (1602, 1609, 'ok 812 6'))
-    return cases + tried('43 of 880', plan_25(2034, 4, outside_25(1600, 2479) + singles(*FORTY_FOUR[:-1])),
-                         (2196, 2196, 'ok 812 6'), (2196, 2197, 'ok 812 6'), (2195, 2196, 'refused 12 1600'))
-
-
-def windows_25():
-    """Grounds 13 to 15, and 6: the thirteenth of 240, the ninth of 40, the rank too many, the end too far."""
-    twelve = wide_25(singles(*range(2010, 2231, 20)))
-    cases = tried('twelve singles', twelve, (2248, 2248, 'refused 13 2009'), (2249, 2249, 'refused 13 2010'),
-                  (2250, 2250, 'ok 1964 15'), (2000, 2000, 'ok 1964 15'), (2001, 2001, 'refused 13 2000'),
-                  (2230, 2230, 'ok 1965 15'))
-    cases += tried('eight together', wide_25([(2200, 2207)]), (2238, 2238, 'refused 14 2199'),
-                   (2239, 2239, 'refused 14 2200'), (2240, 2240, 'ok 1968 15'), (2168, 2168, 'refused 14 2168'),
-                   (2167, 2167, 'ok 1968 15'))
-    cases += tried('25 kHz, together', wide_25(), (2200, 2207, 'ok 1969 15'), (2200, 2208, 'refused 14 2169'),
-                   (2001, 2009, 'refused 14 2000'), (3991, 3999, 'refused 14 3960'), (2000, 2008, 'ok 1968 15'),
-                   (2200, 2212, 'refused 13 2000'))
-    cases += tried('run of 39', wide_25([(2200, 2238)]), (2239, 2239, 'ok 1937 15'), (2199, 2199, 'ok 1937 15'),
-                   (2240, 2240, 'refused 13 2000'), (2000, 2199, 'ok 1738 14'))
-    cases += tried('25 kHz, 40 pilots', LARGEST_25, (0, 0, 'ok 7537 59'), (2000, 2000, 'ok 7536 59'),
-                   (304, 304, 'ok 7536 58'), (1180, 1180, 'refused 8 42'))
-    cases += tried('25 kHz, 39 pilots', ONE_PILOT_FEWER_25, (0, 0, 'refused 15 0'), (304, 304, 'ok 7537 58'),
-                   (7896, 7896, 'ok 7537 59'), (400, 400, 'refused 8 3'))
-    cases += tried('25 kHz, no pilots', full_25(), (2000, 2039, 'ok 7537 60'), (2000, 2038, 'refused 13 1773'),
-                   (296, 335, 'ok 7537 59'), (296, 334, 'refused 15 0'))
-    cases += tried('25 kHz, 295 active', plan_25(408, 4, outside_25(295, 1177)), (295, 295, 'ok 858 7'),
-                   (294, 294, 'refused 6 295'), (295, 296, 'refused 7 296'))
-    cases += tried('25 kHz, 7897 active', plan_25(7769, 4, outside_25(7015, 7897)), (7897, 7897, 'ok 858 7'),
-                   (7898, 8191, 'refused 6 7897'), (7896, 7897, 'refused 7 7896'))
-    return cases + tried('25 kHz, 8191 active', plan_25(1944, 4, [(0, 1599), (2482, 8190)]), (8191, 8191, 'ok 858 7'),
-                         (8190, 8190, 'refused 6 8191'))
-
-
-def records_25():
-    """Grounds 1 to 5 of the plan come first; plans without room; where the chain ends; what stands off it."""
-    items = entries(1944, 4, outside_25(1600, 2481), head=4)
-    good, bad = (1700, 1707), (1708, 1700)
-    cases = []
-    for name, data, want in (
-            ('first byte', PLAN_B[:1], 'refused 1 0'), ('12 bytes', PLAN_B[:12], 'refused 1 0'),
-            ('25 bytes', PLAN_B + b'\0', 'refused 1 0'), ('kind 4 in record 1', kind(PLAN_B, 1, 4), 'refused 2 1'),
-            ('kind 1 in record 2', kind(PLAN_B, 2, 1), 'refused 2 2'), ('kind 5 in record 0', kind(PLAN_B, 0, 5), 'refused 2 0'),
-            ('byte 1', byte1(PLAN_B, 0, 4), 'refused 2 0'), ('next of the last is 3', next_index(PLAN_B, 2, 3), 'refused 3 2'),
-            ('L 407', first(PLAN_B, 0, 407), 'refused 4 0'), ('L 7770', first(PLAN_B, 0, 7770), 'refused 4 0'),
-            ('M 17', second(PLAN_B, 0, 17), 'refused 4 0'), ('range to 8192', second(PLAN_B, 2, 8192), 'refused 4 2')):
-        cases += tried('plan B, ' + name, data, *((*ends, want) for ends in (good, bad, (8191, 8192))))
-    cases += tried('plan A, kind 4 in record 2', kind(PLAN_A, 2, 4), (850, 853, 'refused 2 2'))
-    full_up = PLAN_B + RUBBISH * 509
-    cases += tried('25 kHz, 512, three on the chain', full_up, (*good, 'refused 1 0'), (*bad, 'refused 1 0'))
-    cases += tried('25 kHz, 512, kind of record 2', kind(full_up, 2, 4), (*bad, 'refused 2 2'))
-    cases += tried('25 kHz, 511, three on the chain', full_up[:-8], (*good, 'ok 850 6'), (*bad, 'refused 4 511'))
-    cases += tried('25 kHz, 510, three on the chain', full_up[:-16], (*good, 'ok 850 6'))
-    cases += tried('25 kHz, 511, the last on the chain', spread(items, [0, 509, 510], 511), (*good, 'ok 850 6'),
-                   (8191, 8192, 'refused 4 511'))
-    for name, data, new in (('alone', record(4, 0, 1944, 4), 1), ('of three', next_index(PLAN_B, 0, 0), 3)):
-        cases += tried('25 kHz, record 0 ' + name, data, (0, 1599, 'refused 6 7897'), (2482, 8191, 'refused 6 0'),
-                       (0, 8191, 'refused 7 1832'), (0, 8192, 'refused 4 %d' % new))
-    cases += tried('25 kHz, chain 0 1 of three', next_index(PLAN_B, 1, 0), (2482, 8191, 'ok 858 7'),
-                   (2482, 4095, 'refused 6 7897'), (*bad, 'refused 4 3'))
-    for name, filler in (('kind 1', record(1, 0, 972, 4)), ('kind 4', record(4, 0, 1944, 4)), ('0xFF', RUBBISH),
-                         ('a sound range', record(2, 0, 1720, 1720)), ('a pilot in the range', record(3, 0, 1704, 0))):
-        cases += tried('25 kHz, between and behind: ' + name, spread(items, [0, 2, 4], 6, filler),
-                       (*good, 'ok 850 6'), (*bad, 'refused 4 6'))
-    cases += tried('plan A, kind 4 behind', PLAN_A + record(4, 0, 1944, 4), (850, 853, 'ok 421 3'),
-                   (4095, 4096, 'refused 4 4'), (2482, 8191, 'refused 4 4'))
-    return cases
-
-
-RANGES_25 = ((1700, 1707), (4095, 4096), (8191, 8191), (1708, 1700), (8191, 8192), (0, 0))
-
-
-def of_plans_25(before):
-    """The plans of plans.py with one range, but for the longer ones and what stands before; the lines are
-    the model's."""
-    done = {case[1:4] for case in before}
-    ranges = cycle(RANGES_25)
-    cases = []
-    for name, data, _ in plans.all_cases_25():
-        begin, end = next(ranges)
-        if len(data) <= 1000 and (data, begin, end) not in done:
-            done.add((data, begin, end))
-            cases += tried('plans.py: ' + name, data, (begin, end, None))
-    return cases
-
-
-def all_cases_25():
-    cases = list(chain(neighbours_25(), around_the_plc_25(), bands_25(), windows_25(), records_25()))
-    return cases + of_plans_25(cases)
-
-
 def all_cases():
     cases = list(chain(neighbours(), range_ends(), plc_windows(), further_pilots(), bands(),
                        shares(), windows(), ends_mended(), bands_mended(), plan_first(),
@@ -736,7 +565,7 @@ def line_of(model, data, begin, end):
 
 def make():
     """The cases, their lines, and the bytes of stdin and stdout."""
-    cases = all_cases() + all_cases_25()
+    cases = all_cases()
     given, lines = b'', []
     names = set()
     for name, data, begin, end, want in cases:
@@ -769,19 +598,12 @@ EQUIVALENT = {
     'copy: limit shortest 8 -> 7': 'A copy has 16 bytes or more.',
     'copy: limit shortest 8 -> 9': 'A copy has 16 bytes or more.',
     'copy: limit longest 4096 -> 4097': 'The length of a copy is a multiple of 8.',
+    'copy: limit lowest_l 204 -> 203': KEPT + 'it has the same L.',
+    'copy: limit highest_l 3885 -> 3886': KEPT + 'it has the same L.',
     'copy: limit lowest_m 1 -> 0': KEPT + 'it has the same M.',
+    'copy: limit highest_m 32 -> 33': KEPT + 'it has the same M.',
     'copy: limit pilot_records 120 -> 121': KEPT + 'it has no more kind 3 records.',
 }
-EQUIVALENT |= {'25 kHz: ' + name: reason for name, reason in EQUIVALENT.items()
-               if name.startswith(('copy', 'ground'))}
-EQUIVALENT |= {name: KEPT + 'it has the same L.' for name in (
-    'copy: limit lowest_l 204 -> 203', 'copy: limit highest_l 3885 -> 3886',
-    '25 kHz: copy: limit lowest_l 408 -> 407', '25 kHz: copy: limit highest_l 7769 -> 7770')}
-EQUIVALENT |= {name: KEPT + 'it has the same M.' for name in (
-    'copy: limit highest_m 32 -> 33', '25 kHz: copy: limit highest_m 16 -> 17')}
-EQUIVALENT |= {name: 'The lines count the scattered subcarriers of phase 0 alone.' for name in (
-    'copy: limit scattered_step 1 -> 0', 'copy: limit scattered_step 1 -> 2',
-    '25 kHz: copy: limit scattered_step 2 -> 1', '25 kHz: copy: limit scattered_step 2 -> 3')}
 
 
 @lru_cache(maxsize=None)
@@ -939,8 +761,8 @@ def without(*grounds):
             sound = 3 not in grounds or i < r.next < len(data) // 8
             return r if sound else r._replace(next=0)
 
-        def length_is_bad(self, x, length):
-            return 1 not in grounds and Model.length_is_bad(self, x, length)
+        def length_is_bad(self, length):
+            return 1 not in grounds and Model.length_is_bad(self, length)
     return Without()
 
 
@@ -982,13 +804,8 @@ def four(self, data):
     return ('refused', 4, len(data) // 8)
 
 
-def last_of(data):
-    """The last subcarrier of the plan's device."""
-    return 8191 if data[:1] == b'\4' else 4095
-
-
 def bad_range(data, begin, end):
-    return begin > end or end > last_of(data)
+    return begin > end or end > 4095
 
 
 def range_mutants():
@@ -1006,13 +823,13 @@ def range_mutants():
         and sound_chain(data), four)
     for name, test, answer in (
             ('a bad range left out', bad_range, of_plan),
-            ('a range that ends one too far left out', lambda d, a, b: a <= b == last_of(d) + 1, of_plan),
+            ('a range that ends at 4096 left out', lambda d, a, b: a <= b == 4096, of_plan),
             ('a range that ends at 65535 left out', lambda d, a, b: a <= b == 65535, of_plan),
             ('a range that begins one above its end left out', lambda d, a, b: a == b + 1, of_plan),
             ('a range that begins far above its end left out', lambda d, a, b: a > b + 1, of_plan),
-            ('a range that ends at the last subcarrier refused', lambda d, a, b: a <= b == last_of(d), four),
-            ('a range of one subcarrier refused', lambda d, a, b: a == b <= last_of(d), four),
-            ('a range from 0 refused', lambda d, a, b: a == 0 and b <= last_of(d), four),
+            ('a range that ends at 4095 refused', lambda d, a, b: a <= b == 4095, four),
+            ('a range of one subcarrier refused', lambda d, a, b: a == b < 4096, four),
+            ('a range from 0 refused', lambda d, a, b: a == 0 and b < 4096, four),
             ('no room behind 511 records', lambda d, a, b: len(d) == 4088, one),
             ('no room behind 510 records', lambda d, a, b: len(d) == 4080, one)):
         yield name, when(test, answer)
@@ -1020,12 +837,10 @@ def range_mutants():
 
 def special_mutants():
     """The range left out of some plans, or some ranges."""
-    sound = Model()
-
     def good(test):
         """The test, asked of plans that pass 1 to 5 and their chains."""
         def asked(data, begin, end):
-            records = () if sound.length_is_bad(sound.device(data), len(data)) else sound.chain(data)
+            records = () if Model().length_is_bad(len(data)) else Model().chain(data)
             return isinstance(records, list) and test(len(data) // 8, records)
         return asked
     for name, test in (
@@ -1046,10 +861,9 @@ def special_mutants():
              lambda n, records: [r.kind for _, r in records].count(3) == 120)):
         yield 'left out where ' + name, when(good(test), of_plan)
     for name, test in (('one subcarrier', lambda d, a, b: a == b), ('0', lambda d, a, b: a == 0),
-                       ('the last subcarrier', lambda d, a, b: b == last_of(d)),
-                       ('852 or 1704', lambda d, a, b: a <= 852 <= b or a <= 1704 <= b),
+                       ('4095', lambda d, a, b: b == 4095), ('852', lambda d, a, b: a <= 852 <= b),
                        ('20 or more', lambda d, a, b: b - a > 18),
-                       ('all subcarriers', lambda d, a, b: (a, b) == (0, last_of(d)))):
+                       ('all subcarriers', lambda d, a, b: (a, b) == (0, 4095))):
         yield 'left out if the range has ' + name, when(test, of_plan)
 
 
@@ -1066,7 +880,7 @@ def map_mutants():
         p = Model.map_of(self, data, records[:-1])
         r = records[-1][1]
         flags = [flag ^ (r.first <= k <= r.second) for k, flag in enumerate(p.excluded)]
-        return Map(p.limits, p.l, p.m, bytearray(flags), p.pilots)
+        return Map(p.l, p.m, bytearray(flags), p.pilots)
     yield 'map: overlaps active again', mapping(flipped)
     yield 'map: the range alone', mapping(
         lambda self, data, records: Model.map_of(self, data, [records[0], records[-1]]))
@@ -1095,7 +909,7 @@ def copy_judged(other):
 def copy_mutants():
     """The copy's grounds not tried; its limits moved by one."""
     class NoLength(Model):
-        def length_is_bad(self, x, length):
+        def length_is_bad(self, length):
             return False
     yield 'ground 1 of the copy not tried', copy_judged(NoLength())
     for order in ('record_order', 'map_order'):
@@ -1103,21 +917,11 @@ def copy_mutants():
             others = tuple(g for g in getattr(Model, order) if g != ground)
             yield ('ground %d of the copy not tried' % ground,
                    copy_judged(type('Not', (Model,), {order: others})()))
-
-
-def device_mutants():
-    """The copy's limits moved by one, or those of another device."""
-    for name, devices in moved():
-        at = '25 kHz: ' if name.startswith('25 kHz') else ''
-        yield at + 'copy: ' + name.removeprefix('25 kHz '), copy_judged(Model(*devices))
-    yield '25 kHz: copy of 50 kHz', copy_judged(Model(khz25=KHZ50))
-    yield 'copy of 25 kHz', copy_judged(Model(KHZ25))
-    yield '25 kHz: copy made with kind 1', copying(
-        lambda data, last, n, new: b'\1' + next_index(data, last, n)[1:] + new)
-    for name, test in (
-            ('25 kHz: a range that ends above 4095 refused', lambda d, a, b: last_of(d) == 8191 and a <= b > 4095),
-            ('a range that ends below 8192 left out', lambda d, a, b: last_of(d) == 4095 and a <= b and 4095 < b < 8192)):
-        yield name, when(test, four if name.startswith('25') else of_plan)
+    for field in fields(Limits):
+        value = field.default
+        for other in (value - 1, value + 1):
+            yield ('copy: limit %s %d -> %d' % (field.name, value, other),
+                   copy_judged(Model(replace(Limits(), **{field.name: other}))))
 
 
 def place_mutants():
@@ -1184,18 +988,12 @@ def count_mutants():
 def all_mutants():
     return chain([('nothing', bent())], *(mutants() for mutants in (
         pointing_mutants, index_mutants, order_mutants, record_mutants, own_mutants, range_mutants,
-        special_mutants, map_mutants, copy_mutants, place_mutants, count_mutants, device_mutants)),
-        (('25 kHz: ' + name, model) for mutants in (range_mutants, map_mutants, copy_mutants, count_mutants)
-         for name, model in mutants()))
+        special_mutants, map_mutants, copy_mutants, place_mutants, count_mutants)))
 
 
 def try_mutants(cases, lines):
-    """Those of the 25 kHz device are tried on its cases alone."""
-    tried_on = {True: len(all_cases()), False: 0}
-
-    def change_of(name, model):
-        first = tried_on[name.startswith('25 kHz')]
-        return stored.first_change(line_of, cases[first:], lines[first:], model)
+    def change_of(_, model):
+        return stored.first_change(line_of, cases, lines, model)
     return stored.try_mutants(all_mutants(), change_of, EQUIVALENT, len(cases))
 
 

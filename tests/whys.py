@@ -16,25 +16,25 @@ phase 49` or `data phase 49`; or `refused 14 835` (number, place).
 """
 
 import sys
+from dataclasses import fields, replace
 from functools import lru_cache
 from itertools import chain, combinations, cycle, permutations
-from typing import Callable, NamedTuple
 
 sys.dont_write_bytecode = True
 
 import plans
 import stored
-from make_plans import all_plans, all_plans_25
-from model import KHZ25, KHZ50, PHASES, Model, moved, why_line
+from make_plans import all_plans
+from model import PHASES, Limits, Model, why_line
 from mutants import off_chain, rising_chain
-from plans import (LARGEST, LARGEST_25, OVERLAPPING_510, PLAN_A, PLAN_B, RUBBISH, SINGLES_150, chained, entries, full,
-                   full_25, near_a, near_b, near_plan_b, next_index, outside, outside_25, pilots_of_full,
-                   pilots_of_full_25, plan, plan_25, record, singles, spread, wide_25)
+from plans import (LARGEST, OVERLAPPING_510, PLAN_A, RUBBISH, SINGLES_150, chained, entries, full,
+                   near_a, near_b, next_index, outside, pilots_of_full, plan, record, singles,
+                   spread)
 from roles import NO_PAIR, grid_mutants, remembering
 from tries import ALL_512, FILLERS, ITEMS
 
 LONGEST_PLAN = 5000
-MOST_CASES = 6000
+MOST_CASES = 4000
 MOST_BYTES = 700000
 TOP = 4294967295
 
@@ -46,14 +46,10 @@ TOP = 4294967295
 # is added in records 3 on.
 
 DISTANCES = (15, 24, 35, 47)
-DISTANCES_25 = (30, 48, 70, 94)
 # The predefined pilots of Plan A, each with the phase at which the pattern meets it.
 EIGHT = ((925, 'below 47', 73), (937, 'below 35', 85), (948, 'below 24', 96),
          (957, 'below 15', 105), (994, 'above 15', 14), (1003, 'above 24', 23),
          (1014, 'above 35', 34), (1026, 'above 47', 46))
-EIGHT_25 = ((1850, 'below 94', 9), (1874, 'below 70', 21), (1896, 'below 48', 32),
-            (1914, 'below 30', 41), (1989, 'above 30', 78), (2007, 'above 48', 87),
-            (2029, 'above 70', 98), (2053, 'above 94', 110))
 
 
 def asked(name, data, *rows):
@@ -79,40 +75,22 @@ def meeting(l, k):
     return (k - (l + 8)) % 128
 
 
-def meeting_25(l, k):
-    """At even distances from L+16 phases 0 to 63 meet a subcarrier, at odd ones 64 to 127."""
-    distance = (k - (l + 16)) % 128
-    return distance // 2 if distance % 2 == 0 else 64 + (distance - 1) // 2
-
-
-class Shape(NamedTuple):
-    """What stands around the PLC of a device."""
-    plc: int                # subcarriers of the PLC
-    distances: tuple        # of the predefined pilots
-    meeting: Callable       # of L and a subcarrier: the phase at which the pattern meets it
-
-
-SHAPE = Shape(8, DISTANCES, meeting)
-SHAPE_25 = Shape(16, DISTANCES_25, meeting_25)
-
-
-def pattern(l, k, phase, shape=SHAPE):
+def pattern(l, k, phase):
     """The line of a subcarrier that has a rank."""
-    q = shape.meeting(l, k)
+    q = meeting(l, k)
     return '%s phase %d' % ('scattered' if q == phase else 'data', q)
 
 
-def active(l, k, phase, shape=SHAPE):
+def active(l, k, phase):
     """The line of an active subcarrier that no record names."""
-    top = l + shape.plc - 1
-    if l <= k <= top:
+    if l <= k <= l + 7:
         return 'plc record 0'
-    for d in shape.distances:
+    for d in DISTANCES:
         if k == l - d:
             return 'continuous below %d' % d
-        if k == top + d:
+        if k == l + 7 + d:
             return 'continuous above %d' % d
-    return pattern(l, k, phase, shape)
+    return pattern(l, k, phase)
 
 
 # --- Plan A ----------------------------------------------------------------
@@ -518,149 +496,14 @@ def of_plans():
     return cases
 
 
-# --- the 25 kHz device -----------------------------------------------------
-
-def plan_b():
-    """Both ends of each range, the PLC, the predefined pilots and what stands beside them, the pattern
-    at its turn from phase 63 to 64, and many subcarriers at their own phase and at others."""
-    cases = at_phases('plan B', PLAN_B, (0, 63, 64, 127), ('excluded record 1', 0, 1599),
-                      ('excluded record 2', 2482, 4095, 4096, 8191), ('plc record 0', 1944, 1951, 1952, 1959))
-    cases += at_phases('plan B', PLAN_B, (32,), ('plc record 0', *range(1945, 1959)))
-    for q, *subcarriers in ((0, 1704, 1832, 1960, 2088, 2216, 2344, 2472), (1, 1706, 1962), (63, 1702, 1830, 2086),
-                            (64, 1705, 1833, 1961, 2473), (65, 1707, 1963), (127, 1703, 1831, 2087)):
-        cases += at_phases('plan B', PLAN_B, (q,), ('scattered phase %d' % q, *subcarriers))
-        cases += at_phases('plan B', PLAN_B, [(q + n) % 128 for n in (-1, 1, 64)],
-                           ('data phase %d' % q, *subcarriers))
-    for k, where, q in EIGHT_25:
-        cases += at_phases('plan B, predefined', PLAN_B, (q - 1, q, q + 1, 0, 127), ('continuous ' + where, k))
-        cases += asked('plan B, predefined', PLAN_B, *((k + n, q, pattern(1944, k + n, q, SHAPE_25))
-                                                       for n in (-2, -1, 1, 2)))
-    rows = [(k, phase) for k in range(1600, 2482, 9) for phase in (48, meeting_25(1944, k))]
-    cases += asked('plan B, many', PLAN_B, *((k, phase, active(1944, k, phase, SHAPE_25)) for k, phase in rows))
-    cases += asked('plan B, every phase once', PLAN_B, *(
-        (2088 + n, n // 2 + 64 * (n % 2), 'scattered phase %d' % (n // 2 + 64 * (n % 2))) for n in range(128)))
-    return cases + at_phases('plan B, many phases', PLAN_B, range(0, 128, 5), ('data phase 78', 2117))
-
-
-def records_25():
-    """Ranges that overlap, further pilots, and records off the chain: those of kind 1 and 4 too."""
-    overlapping = near_plan_b([(1700, 1704), (1702, 1707)])
-    cases = excluded('25 kHz, overlapping', overlapping, (3, 1700, 1702, 1704), (4, 1705, 1707))
-    cases += asked('25 kHz, overlapping', overlapping, (1699, 0, 'data phase 125'), (1708, 0, 'data phase 2'))
-    cases += excluded('25 kHz, two on each side',
-                      plan_25(1944, 4, [(0, 900), (800, 1599), (2482, 6000), (4096, 8191)]),
-                      (1, 0, 800, 900), (2, 901, 1599), (3, 2482, 4095, 4096, 6000), (4, 6001, 8191))
-    cases += at_phases('25 kHz, pilots', near_plan_b(singles(1700), [2473, 1704, 1701]), (0, 64),
-                       ('excluded record 3', 1700), ('continuous record 4', 2473), ('continuous record 5', 1704),
-                       ('continuous record 6', 1701), ('data phase 127', 1703))
-    rising = full_25(pilots=pilots_of_full_25(120))
-    for n in (0, 8, 59, 118, 119):
-        k = 400 + 20 * n
-        cases += asked('25 kHz, 120 pilots', rising, (k, meeting_25(4000, k), 'continuous record %d' % (3 + n)),
-                       (k + 1, 0, pattern(4000, k + 1, 0, SHAPE_25)), (k - 1, 64, pattern(4000, k - 1, 64, SHAPE_25)))
-    cases += asked('25 kHz, 40 pilots', LARGEST_25, (560, 0, 'continuous record 11'), (688, 0, 'scattered phase 0'),
-                   (296, 60, 'scattered phase 60'), (7896, 20, 'scattered phase 20'), (7895, 83, 'scattered phase 83'),
-                   (295, 0, 'excluded record 1'), (7897, 0, 'excluded record 2'))
-    items = entries(1944, 4, outside_25(1600, 2481) + [(1700, 1707)], [1800], head=4)
-    for name, filler in (('0xFF', RUBBISH), ('kind 1', record(1, 0, 972, 4)), ('kind 4', record(4, 0, 2000, 4)),
-                         ('all excluded', record(2, 0, 0, 8191)), ('the pilot', record(3, 0, 1800, 0))):
-        cases += at_phases('25 kHz, off the chain: ' + name, spread(items, [0, 2, 4, 6, 8], 10, filler), (0,),
-                           ('excluded record 2', 0, 1599), ('excluded record 4', 2482, 8191),
-                           ('excluded record 6', 1700, 1707), ('continuous record 8', 1800),
-                           ('continuous below 94', 1850), ('plc record 0', 1944), ('data phase 2', 1708))
-    # kind 4 off the chain does not name the device
-    data = spread(entries(972, 4, outside(800, 1240)), [0, 2, 4], 6, record(4, 0, 1944, 4))
-    return cases + asked('plan A, kind 4 off the chain', data, (924, 72, 'scattered phase 72'), (975, 0, 'plc record 0'),
-                         (980, 0, 'scattered phase 0'), (4095, 0, 'excluded record 4'), (4096, 0, 'refused 16 0'))
-
-
-def around_25(l):
-    """A plan with 882 active subcarriers around the PLC."""
-    low = min(max(l - 400, 296), 7015)
-    return plan_25(l, 16, outside_25(low, low + 881))
-
-
-def distances_25():
-    """All distances for several L, the subcarriers beside, and where a pilot would stand whose distance were
-    counted above from L or below from L+15; and those of the other device."""
-    cases = []
-    for l in (408, 1001, 4096, 7769):
-        name, data = '25 kHz, L %d' % l, around_25(l)
-        for d, other in zip(DISTANCES_25, DISTANCES):
-            low, high = l - d, l + 15 + d
-            cases += asked(name, data, (low, meeting_25(l, low), 'continuous below %d' % d),
-                           (high, meeting_25(l, high), 'continuous above %d' % d))
-            cases += asked(name, data, *((k, k % 128, active(l, k, k % 128, SHAPE_25)) for k in (
-                low - 1, low + 1, low + 15, high - 15, high + 1, l - other, l + 7 + other)))
-        cases += asked(name, data, (l - 1, 0, 'data phase 119'), (l + 16, 0, 'scattered phase 0'),
-                       (l + 17, 64, 'scattered phase 64'), (l, 56, 'plc record 0'), (l + 15, 127, 'plc record 0'))
-    return cases
-
-
-def wide_25_cases():
-    """Many subcarriers of wide plans, far below and above L, at several phases."""
-    some = cycle((0, 1, 63, 64, 126, 127))
-    cases = []
-    for l, low, high, step in ((408, 296, 4200, 67), (7769, 336, 7896, 129), (4096, 1000, 7000, 125)):
-        rows = [(k, next(some)) for k in range(low, high + 1, step)]
-        cases += asked('25 kHz, from %d' % l, plan_25(l, 7, outside_25(low, high)),
-                       *((k, phase, active(l, k, phase, SHAPE_25)) for k, phase in rows))
-        cases += asked('25 kHz, at its own, from %d' % l, plan_25(l, 7, outside_25(low, high)),
-                       *((k, meeting_25(l, k), active(l, k, meeting_25(l, k), SHAPE_25)) for k, _ in rows[::3]))
-    bands = wide_25([(2600, 2639)] + singles(*range(2480, 2591, 10)))
-    cases += excluded('25 kHz, two bands', bands, (3, 2600, 2628, 2639), (4, 2480), (15, 2590))
-    return cases + asked('25 kHz, two bands', bands, (2599, 0, active(3000, 2599, 0, SHAPE_25)),
-                         (2640, 68, active(3000, 2640, 68, SHAPE_25)), (2500, 62, 'excluded record 6'))
-
-
-def refusals_25():
-    """Ground 16 of the second device, after the plan's own grounds."""
-    cases = []
-    for k in (8192, 8193, 8192 + 1704, 16383, 32768, 65535, 65536, 65536 + 1704, 16777216 + 1704, 2147483648 + 1704, TOP):
-        cases += at_phases('25 kHz, 16', PLAN_B, (0, 127), ('refused 16 0', k))
-    for phase in (128, 129, 192, 255, 256, 65536, 65536 + 64, 2147483648, TOP):
-        cases += at_phases('25 kHz, 16', PLAN_B, (phase,), ('refused 16 0', 0, 1704, 1850, 1944, 1961, 8191))
-    cases += at_phases('25 kHz, 16', PLAN_B, (128, TOP), ('refused 16 0', 8192, TOP))
-    cases += at_phases('25 kHz, 16, 40 pilots', LARGEST_25, (128,), ('refused 16 0', 400, 401, 4000))
-    for name, data, want, _ in all_plans_25():
-        if want.startswith('refused'):
-            cases += asked(name, data, (1704, 0, want), (8192, 0, want), (1704, 128, want))
-    for name, data, want in (('ground 1', PLAN_B[:12], 'refused 1 0'), ('ground 3', next_index(PLAN_B, 1, 3), 'refused 3 1')):
-        cases += asked('25 kHz, ' + name, data, (1704, 0, want), (8192, 0, want), (0, 128, want))
-    return cases + asked('25 kHz, 4096 bytes', PLAN_B + bytes(4072), (1961, 64, 'scattered phase 64'))
-
-
-QUESTIONS_25 = ((0, 0), (1704, 0), (8192, 0), (1961, 64), (1599, 127), (1704, 128), (1944, 120), (8191, 127), (TOP, TOP),
-                (2029, 98), (2200, 5), (4096, 63), (2000, 65))
-
-
-def of_plans_25():
-    """The plans of plans.py, each with a question."""
-    questions = cycle(QUESTIONS_25)
-    cases = []
-    for name, data, line in plans.all_cases_25():
-        if len(data) <= 1000:
-            k, phase = next(questions)
-            last = 8191 if data[:1] == b'\4' else 4095
-            want = line if line.startswith('refused') else 'refused 16 0' if k > last or phase > 127 else None
-            cases += asked('plans.py: ' + name, data, (k, phase, want))
-    return cases
-
-
-def all_cases_25():
-    return once(plan_b(), records_25(), distances_25(), wide_25_cases(), refusals_25(), of_plans_25())
-
-
 def all_cases():
-    return once(ends_of_a(), starred(), predefined_of_a(), sweeps_of_a(), overlaps(), band_ends(), many_records(),
-                further_pilots(), beside_excluded(), beside_predefined(), many_pilots(), off_the_chain(), skipped(),
-                far_records(), distances(), phases(), out_of_range(), plan_first(), of_plans())
-
-
-def once(*parts):
     """Each plan, subcarrier and phase once, as it first stands here; its lines agree."""
     cases = {}
-    for case in chain(*parts):
+    for case in chain(ends_of_a(), starred(), predefined_of_a(), sweeps_of_a(), overlaps(),
+                      band_ends(), many_records(), further_pilots(), beside_excluded(),
+                      beside_predefined(), many_pilots(), off_the_chain(), skipped(),
+                      far_records(), distances(), phases(), out_of_range(), plan_first(),
+                      of_plans()):
         first = cases.setdefault(case[1:4], case)
         assert case[4] in (None, first[4]), '%s: %s; %s: %s' % (*first[::4], *case[::4])
     return list(cases.values())
@@ -678,7 +521,7 @@ def line_of(model, data, k, phase):
 
 def make():
     """The cases, their lines, and the bytes of stdin and stdout."""
-    cases = all_cases() + all_cases_25()
+    cases = all_cases()
     given, lines = b'', []
     names = set()
     for name, data, k, phase, want in cases:
@@ -718,9 +561,6 @@ EQUIVALENT = {
     **{'order: ' + ', '.join((*order, 'scattered')): NO_PAIR
        for order in permutations(EARLY) if order != EARLY},
 }
-EQUIVALENT |= {'25 kHz ' + name: EQUIVALENT[name]
-               for name in ('limit shortest 8 -> 7', 'limit longest 4096 -> 4097')}
-EQUIVALENT |= {'25 kHz: distance: above counted from L+15': 'The PLC of the second device ends there.'}
 
 
 @lru_cache(maxsize=None)
@@ -955,22 +795,12 @@ def plc_mutants():
         return (('above', k - p.l) if role == 'plc'
                 else Model.reason(self, p, records, role, k))
     yield 'PLC: how far above L', bent(reason=distance_said)
-    for low, high in ((0, 1), (-1, 0), (0, -1), (1, 0)):
-        yield 'PLC from L%+d to its end %+d' % (low, high), bent_role(
-            is_plc=lambda self, p, k, low=low, high=high: p.l + low <= k <= p.l + p.limits.plc_width - 1 + high)
-    yield 'PLC below L', bent_role(is_plc=lambda self, p, k: p.l - p.limits.plc_width <= k < p.l)
-    for n in range(1, 15):
+    for low, high in ((0, 8), (-1, 7), (0, 6), (1, 7), (-8, -1)):
+        yield 'PLC from L%+d to L%+d' % (low, high), bent_role(
+            is_plc=lambda self, p, k, low=low, high=high: p.l + low <= k <= p.l + high)
+    for n in range(1, 7):
         yield 'PLC without L+%d' % n, bent_role(
             is_plc=lambda self, p, k, n=n: Model.is_plc(self, p, k) and k != p.l + n)
-
-
-def distances_of(p):
-    return DISTANCES_25 if p.limits == KHZ25 else DISTANCES
-
-
-def width_of(p):
-    """Of the PLC."""
-    return p.limits.plc_width
 
 
 def distance_mutants():
@@ -978,32 +808,32 @@ def distance_mutants():
     exchanged = {'below': 'above', 'above': 'below'}
     said = {
         'above counted from L': lambda p, k, side, x: (side, k - p.l if side == 'above' else x),
-        'above counted from the first one above': lambda p, k, side, x: (side, x - (side == 'above')),
-        'above counted from the last but one': lambda p, k, side, x: (side, x + (side == 'above')),
-        'above counted from L+7': lambda p, k, side, x: (side, k - p.l - 7 if side == 'above' else x),
-        'above counted from L+15': lambda p, k, side, x: (side, k - p.l - 15 if side == 'above' else x),
-        'below counted from the last': lambda p, k, side, x: (side, x + (width_of(p) - 1) * (side == 'below')),
+        'above counted from L+8': lambda p, k, side, x: (side, x - (side == 'above')),
+        'above counted from L+6': lambda p, k, side, x: (side, x + (side == 'above')),
+        'below counted from L+7': lambda p, k, side, x: (side, x + 7 * (side == 'below')),
         'below counted from L-1': lambda p, k, side, x: (side, x - (side == 'below')),
         'below counted from L+1': lambda p, k, side, x: (side, x + (side == 'below')),
         'both one less': lambda p, k, side, x: (side, x - 1),
         'both one more': lambda p, k, side, x: (side, x + 1),
-        'from the centre': lambda p, k, side, x: (side, abs(k - (p.l + width_of(p) // 2))),
-        'from where the pattern begins': lambda p, k, side, x: (side, abs(k - (p.l + width_of(p)))),
-        'halved': lambda p, k, side, x: (side, x // 2),
-        'doubled': lambda p, k, side, x: (side, 2 * x),
+        'from the centre': lambda p, k, side, x: (side, abs(k - (p.l + 4))),
+        'from L+8, where the pattern begins': lambda p, k, side, x: (side, abs(k - (p.l + 8))),
         'the sides exchanged': lambda p, k, side, x: (exchanged[side], x),
         'always below': lambda p, k, side, x: ('below', x),
         'always above': lambda p, k, side, x: ('above', x),
         'the four in the other order': lambda p, k, side, x: (
-            side, distances_of(p)[::-1][distances_of(p).index(x)]),
-        'which of the four': lambda p, k, side, x: (side, distances_of(p).index(x) + 1),
-        'of the other device': lambda p, k, side, x: (
-            side, (DISTANCES if p.limits == KHZ25 else DISTANCES_25)[distances_of(p).index(x)]),
-        'which of the eight': lambda p, k, side, x: (side, Model().predefined(p.limits, p.l).index(k)),
+            side, DISTANCES[::-1][DISTANCES.index(x)]),
+        'which of the four': lambda p, k, side, x: (side, DISTANCES.index(x) + 1),
+        'which of the eight': lambda p, k, side, x: (side, Model().predefined(p.l).index(k)),
         'the subcarrier': lambda p, k, side, x: (side, k),
         'record 0': lambda p, k, side, x: ('record', 0),
         'the phase': lambda p, k, side, x: ('phase', meeting(p.l, k)),
     }
+    for d in DISTANCES:
+        for which in ('below', 'above'):
+            for step in (-1, 1):
+                said['%s %d said %d' % (which, d, d + step)] = (
+                    lambda p, k, side, x, d=d, which=which, step=step:
+                    (side, x + step) if (side, x) == (which, d) else (side, x))
     for name, distance in said.items():
         yield 'distance: ' + name, bent(distance=lambda self, p, k, distance=distance: distance(
             p, k, *Model.distance(self, p, k)))
@@ -1014,64 +844,23 @@ def distance_mutants():
     yield 'distance: of further pilots too', bent(reason=for_further)
 
 
-def one_distance_mutants():
-    """One of the distances, of either device, said otherwise."""
-    for wrong in [(side, d, step) for d in DISTANCES + DISTANCES_25 for side in ('below', 'above') for step in (-1, 1)]:
-        def distance(self, p, k, wrong=wrong):
-            side, x = Model.distance(self, p, k)
-            return (side, x + wrong[2]) if (side, x) == wrong[:2] else (side, x)
-        yield 'distance: %s %d said %+d' % wrong, bent(distance=distance)
-
-
 def predefined_mutants():
     """Other predefined pilots."""
     for n in range(8):
         for step in (-1, 1, None):
-            def predefined(self, x, l, n=n, step=step):
-                eight = Model.predefined(self, x, l)
+            def predefined(self, l, n=n, step=step):
+                eight = Model.predefined(self, l)
                 return eight[:n] + ([] if step is None else [eight[n] + step]) + eight[n + 1:]
             what = 'missing' if step is None else 'moved by %d' % step
             yield 'predefined pilot %d %s' % (n, what), bent_role(predefined=predefined)
-    yield 'predefined pilots above counted from L', bent_role(
-        predefined=lambda self, x, l: Model.predefined(self, x, l)[:4]
-        + [k - x.plc_width + 1 for k in Model.predefined(self, x, l)[4:]])
-    yield 'predefined pilots below counted from the last of the PLC', bent_role(
-        predefined=lambda self, x, l: [k + x.plc_width - 1 for k in Model.predefined(self, x, l)[:4]]
-        + Model.predefined(self, x, l)[4:])
-
-
-def phase_mutants_25():
-    """Another phase said of the second device; e is how far a subcarrier is above L+16, below 128."""
-    said = {
-        'straight': lambda e, q: e,
-        'half': lambda e, q: e // 2,
-        'half, rounded up': lambda e, q: (e + 1) // 2,
-        'twice': lambda e, q: 2 * e % 128,
-        'the way there': lambda e, q: 2 * e % 128 + 2 * e // 128,
-        'the halves exchanged': lambda e, q: (q + 64) % 128,
-        'of odd ones 63 more': lambda e, q: q - e % 2,
-        'of odd ones 65 more': lambda e, q: q + e % 2,
-        'of odd ones as of even ones': lambda e, q: q % 64,
-        'of odd ones falling': lambda e, q: 191 - q if e % 2 else q,
-        'of odd ones itself': lambda e, q: e if e % 2 else q,
-        'one more': lambda e, q: (q + 1) % 128,
-        'one less': lambda e, q: (q - 1) % 128,
-        '128 for 0': lambda e, q: q or 128,
-        '128 for 64': lambda e, q: 128 if q == 64 else q,
-        '0 for 127': lambda e, q: q % 127,
-    }
-    for name, phase in said.items():
-        yield '25 kHz: phase: ' + name, bent(scattered_phase=lambda self, p, k, phase=phase: phase(
-            (k - p.l - 16) % 128, phase_of(p, k)))
-    origins = {'subcarrier 0': lambda p: 0, 'L': lambda p: p.l, 'L+8': lambda p: p.l + 8, 'L+15': lambda p: p.l + 15,
-               'L+17': lambda p: p.l + 17, 'the lowest active': lambda p: p.excluded.find(0)}
-    for name, origin in origins.items():
-        yield '25 kHz: phase: from ' + name, bent(scattered_phase=lambda self, p, k, origin=origin: meeting_25(
-            origin(p) - 16, k))
+    yield 'predefined pilots above counted from L', bent_role(predefined=lambda self, l: [
+        *(l - d for d in DISTANCES), *(l + d for d in DISTANCES)])
+    yield 'predefined pilots below counted from L+7', bent_role(predefined=lambda self, l: [
+        *(l + 7 - d for d in DISTANCES), *(l + 7 + d for d in DISTANCES)])
 
 
 def phase_mutants():
-    """Another phase said, as of the first device."""
+    """Another phase said."""
     said = {
         'one more': lambda p, k, q: (q + 1) % 128,
         'one less': lambda p, k, q: (q - 1) % 128,
@@ -1132,7 +921,7 @@ def ordered(order):
     """Role at a phase: the first that applies, in another order."""
     def role_of(self, p, k, phase):
         holds = {'excluded': p.excluded[k], 'plc': self.is_plc(p, k),
-                 'continuous': k in self.predefined(p.limits, p.l) or k in [x for _, x in p.pilots],
+                 'continuous': k in self.predefined(p.l) or k in [x for _, x in p.pilots],
                  'scattered': self.on_grid(p, k, phase)}
         return next((name for name in order if holds[name]), 'data')
     return bent_role(role_of=role_of)
@@ -1163,28 +952,26 @@ def word_mutants():
 
 
 def range_mutants():
-    """Ground 16 with other limits, or of some bits only; n is the last subcarrier of the device."""
+    """Ground 16 with other limits, or of some bits only."""
     tests = {
-        'the last subcarrier out': lambda k, j, n: k > n - 1 or j > 127,
-        'one more subcarrier in': lambda k, j, n: k > n + 1 or j > 127,
-        'subcarrier 0 out': lambda k, j, n: k == 0 or k > n or j > 127,
-        'phase 127 out': lambda k, j, n: k > n or j > 126,
-        'phase 128 in': lambda k, j, n: k > n or j > 128,
-        'phase 0 out': lambda k, j, n: k > n or not 0 < j < 128,
-        'the subcarrier not tried': lambda k, j, n: j > 127,
-        'the phase not tried': lambda k, j, n: k > n,
-        'only where both are out': lambda k, j, n: k > n and j > 127,
-        'not where both are out': lambda k, j, n: (k > n) != (j > 127),
-        'a phase up to 255 in': lambda k, j, n: k > n or j > 255,
-        'subcarriers of the other device': lambda k, j, n: k > 12286 - n or j > 127,
+        'subcarrier 4095 out': lambda k, j: k > 4094 or j > 127,
+        'subcarrier 4096 in': lambda k, j: k > 4096 or j > 127,
+        'subcarrier 0 out': lambda k, j: k == 0 or k > 4095 or j > 127,
+        'phase 127 out': lambda k, j: k > 4095 or j > 126,
+        'phase 128 in': lambda k, j: k > 4095 or j > 128,
+        'phase 0 out': lambda k, j: k > 4095 or not 0 < j < 128,
+        'the subcarrier not tried': lambda k, j: j > 127,
+        'the phase not tried': lambda k, j: k > 4095,
+        'only where both are out': lambda k, j: k > 4095 and j > 127,
+        'not where both are out': lambda k, j: (k > 4095) != (j > 127),
+        'a phase up to 255 in': lambda k, j: k > 4095 or j > 255,
     }
     for name, test in tests.items():
-        yield '16: ' + name, bent(
-            out_of_range=lambda self, x, k, phase, test=test: test(k, phase, x.last_subcarrier))
+        yield '16: ' + name, bent(out_of_range=lambda self, k, phase, test=test: test(k, phase))
     for bits in (12, 13, 16, 24, 31):
         yield '16: %d bits of the subcarrier' % bits, bent(
             why=lambda self, data, k, phase, low=1 << bits: Model.why(self, data, k % low, phase))
-    for bits in (6, 7, 8, 16, 24, 31):
+    for bits in (7, 8, 16, 24, 31):
         yield '16: %d bits of the phase' % bits, bent(
             why=lambda self, data, k, phase, low=1 << bits: Model.why(self, data, k, phase % low))
 
@@ -1212,18 +999,17 @@ def refusal_mutants():
 
 def order_mutants():
     """Ground 16 tried before 1 to 15, or before one of them."""
-    def before(test, tried_first=lambda p: True):
-        def asked(self, data, k, phase):
-            wrong = test(k, phase, self.device(data).last_subcarrier) and tried_first(judged(data))
-            return ('refused', 16, 0) if wrong else Model.asked(self, data, k, phase)
-        return bent(asked=asked)
-    numbers = {'subcarrier': lambda k, j, n: k > n, 'phase': lambda k, j, n: j > 127}
-    yield '16 before 1 to 15', before(lambda k, j, n: k > n or j > 127)
-    for what, test in numbers.items():
-        yield '16 before 1 to 15: the %s' % what, before(test)
-        for ground in range(1, 16):
+    def before(test):
+        return bent(asked=lambda self, data, k, phase: ('refused', 16, 0)
+                    if test(judged(data), k, phase) else Model.asked(self, data, k, phase))
+    yield '16 before 1 to 15', before(lambda p, k, j: k > 4095 or j > 127)
+    yield '16 before 1 to 15: the subcarrier', before(lambda p, k, j: k > 4095)
+    yield '16 before 1 to 15: the phase', before(lambda p, k, j: j > 127)
+    for ground in range(1, 16):
+        for what, test in (('subcarrier', lambda k, j: k > 4095), ('phase', lambda k, j: j > 127)):
             yield '16 before %d: the %s' % (ground, what), before(
-                test, lambda p, ground=ground: isinstance(p, tuple) and p[1] == ground)
+                lambda p, k, j, ground=ground, test=test:
+                test(k, j) and isinstance(p, tuple) and p[1] == ground)
 
 
 def without(ground):
@@ -1243,8 +1029,8 @@ def without(ground):
             sound = ground != 3 or i < r.next < len(data) // 8
             return r if sound else r._replace(next=0)
 
-        def length_is_bad(self, x, length):
-            return ground != 1 and Model.length_is_bad(self, x, length)
+        def length_is_bad(self, length):
+            return ground != 1 and Model.length_is_bad(self, length)
     return Without()
 
 
@@ -1262,33 +1048,23 @@ def plan_mutants():
                 lambda p, ground=ground, step=step:
                 ('refused', ground, p[2] + step) if p[1] == ground else p)
         yield 'ground %d not tried' % ground, without(ground)
-
-
-def device_mutants():
-    """A limit of either device moved by one; another device."""
-    for name, devices in moved():
-        yield name, remembering(Model(*devices))
-    yield '25 kHz: as of 50 kHz', remembering(Model(khz25=KHZ50))
-    yield 'as of 25 kHz', remembering(Model(KHZ25))
+    for field in fields(Limits):
+        value = field.default
+        for other in (value - 1, value + 1):
+            yield ('limit %s %d -> %d' % (field.name, value, other),
+                   remembering(Model(replace(Limits(), **{field.name: other}))))
 
 
 def all_mutants():
     return chain([('nothing', bent())], *(mutants() for mutants in (
         choice_mutants, search_mutants, reading_mutants, test_mutants, index_mutants, plc_mutants,
-        distance_mutants, one_distance_mutants, predefined_mutants, phase_mutants, asked_mutants, pattern_mutants,
-        word_mutants, range_mutants, refusal_mutants, order_mutants, plan_mutants, device_mutants, phase_mutants_25)),
-        (('25 kHz: ' + name, model) for mutants in (plc_mutants, distance_mutants, predefined_mutants, pattern_mutants,
-                                                    asked_mutants, range_mutants, order_mutants)
-         for name, model in mutants()))
+        distance_mutants, predefined_mutants, phase_mutants, asked_mutants, pattern_mutants,
+        word_mutants, range_mutants, refusal_mutants, order_mutants, plan_mutants)))
 
 
 def try_mutants(cases, lines):
-    """Those of the 25 kHz device are tried on its cases alone."""
-    tried_on = {True: len(all_cases()), False: 0}
-
-    def change_of(name, model):
-        first = tried_on[name.startswith('25 kHz')]
-        return stored.first_change(line_of, cases[first:], lines[first:], model)
+    def change_of(_, model):
+        return stored.first_change(line_of, cases, lines, model)
     return stored.try_mutants(all_mutants(), change_of, EQUIVALENT, len(cases))
 
 

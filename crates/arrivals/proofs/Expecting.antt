@@ -19,7 +19,6 @@ use Rattle.counting.proofs.Orders.{same_mod}
 use Rattle.rules.specs.declared.Device.{Device}
 use Rattle.rules.specs.Device.{phases}
 use Rattle.rules.specs.Plan.{Plan}
-use Rattle.rules.specs.Roles.{pattern_start}
 use Rattle.rules.specs.Fits.{Fits}
 use Rattle.rules.specs.Frame.{Frame, frame_of}
 use Rattle.rules.specs.Loads.{limit_at}
@@ -54,26 +53,26 @@ expected_start n base m h = record {
 
 -- ---- what is allowed, of a frame
 
-module _ (F : Frame) (m : List ℕ) (tied : Tied F m) (base up : ℕ) (turns : Turning F base up) (limit j k x : ℕ) (h : k < F.width) where
+module _ (F : Frame) (m : List ℕ) (tied : Tied F m) (base : ℕ) (turns : Turning F base) (limit j k x : ℕ) (h : k < F.width) where
   -- a subcarrier without a rank asks for its mark
-  unranked : F.ranked k ≡ false → allowed limit (expected ((base + pattern_start up j) % phases) m k) x ≡ cell_fits F limit j k x
+  unranked : F.ranked k ≡ false → allowed limit (expected ((base + j) % phases) m k) x ≡ cell_fits F limit j k x
   unfolding allowed expected scattered_mark cell_fits is_zero
   unranked r =
       let z : eqb (get_or m k 0) 0 ≡ false = tied.ranks k h ∙ r in
-      by_test (eqb (k % phases) ((base + pattern_start up j) % phases))
+      by_test (eqb (k % phases) ((base + j) % phases))
       (λ e. rw (e, z, z, r) (ap (eqb x) (tied.marks k h r)))
       (λ e. rw (e, z, r) (ap (eqb x) (tied.marks k h r)))
 
   -- one with a rank for a placeholder where the pattern stands, else for data or filler
-  with_rank : F.ranked k ≡ true → allowed limit (expected ((base + pattern_start up j) % phases) m k) x ≡ cell_fits F limit j k x
+  with_rank : F.ranked k ≡ true → allowed limit (expected ((base + j) % phases) m k) x ≡ cell_fits F limit j k x
   unfolding allowed expected scattered_mark cell_fits is_zero
   with_rank r =
       let z : get_or m k 0 ≡ 0 = eqb-true (get_or m k 0) 0 (tied.ranks k h ∙ r) in
-      by_test (eqb (k % phases) ((base + pattern_start up j) % phases))
+      by_test (eqb (k % phases) ((base + j) % phases))
       (λ e. rw (r, turns.pattern j k, e, z) refl)
       (λ e. rw (r, turns.pattern j k, e, z) refl)
 
-  pub allowed_fits : allowed limit (expected ((base + pattern_start up j) % phases) m k) x ≡ cell_fits F limit j k x
+  pub allowed_fits : allowed limit (expected ((base + j) % phases) m k) x ≡ cell_fits F limit j k x
   allowed_fits = by_test (F.ranked k) with_rank unranked
 
 -- ---- searches
@@ -93,18 +92,18 @@ pub all_fit : (t : ℕ → Bool) (n : ℕ) → count t n ≡ n → lowest (λ k.
 all_fit t n e = none_lowest (λ k. not (t k)) n (λ k h. ap not (all_pass t n e k h))
 
 -- the limits of the profile and the marks m' with the scattered pilots of phase j find the lowest cell that its role does not ask for
-pub wrong_is : (d : Device) (p : Plan) (w limits m m' y : List ℕ) (l j r : ℕ) → l ≡ p.plc → r ≡ (l + d.plc_width + pattern_start d.scatter_step j) % phases → Fits d → Marked d p m
-    → ((k : ℕ) → k < d.subcarriers → get_or m' k 0 ≡ expected r m k)
+pub wrong_is : (d : Device) (p : Plan) (w limits m m' y : List ℕ) (l j : ℕ) → l ≡ p.plc → Fits d → Marked d p m
+    → ((k : ℕ) → k < d.subcarriers → get_or m' k 0 ≡ expected ((l + d.plc_width + j) % phases) m k)
     → ((k : ℕ) → k < d.subcarriers → get_or limits k 0 ≡ limit_at w k)
     → lowest (λ k. not (allowed_at limits m' y k)) d.subcarriers ≡ lowest (wrong_cell (frame_of d p) w j y) d.subcarriers
 unfolding allowed_at wrong_cell frame_of
-wrong_is d p w limits m m' y l j r e is fits marked put are =
+wrong_is d p w limits m m' y l j e fits marked put are =
     lowest_ext _ _ d.subcarriers
     (λ k h.
     ap not
     (ap₂ (λ (a v : ℕ). allowed a v (get_or y k 0)) (are k h) (put k h)
-    ∙ ap (λ (x : ℕ). allowed (limit_at w k) (expected x m k) (get_or y k 0)) (is ∙ ap (λ (b : ℕ). (b + d.plc_width + pattern_start d.scatter_step j) % phases) e)
-    ∙ allowed_fits (frame_of d p) m (tied_of d p m fits marked) (p.plc + d.plc_width) d.scatter_step (turning_of d p fits) (limit_at w k) j k (get_or y k 0) h
+    ∙ ap (λ (b : ℕ). allowed (limit_at w k) (expected ((b + d.plc_width + j) % phases) m k) (get_or y k 0)) e
+    ∙ allowed_fits (frame_of d p) m (tied_of d p m fits marked) (p.plc + d.plc_width) (turning_of d p) (limit_at w k) j k (get_or y k 0) h
     ∙ fits_role_lem d p (limit_at w k) j k (get_or y k 0) h))
 
 -- what one limit allows
@@ -112,14 +111,14 @@ abbrev pub allowed_under : ℕ → List ℕ → List ℕ → ℕ → Bool
 allowed_under limit m y k = allowed limit (get_or m k 0) (get_or y k 0)
 
 -- where every cell fits under the limit of its load, none is wrong
-pub none_wrong : (d : Device) (p : Plan) (w m m' y : List ℕ) (l j r : ℕ) → l ≡ p.plc → r ≡ (l + d.plc_width + pattern_start d.scatter_step j) % phases → Fits d → Marked d p m
-    → ((k : ℕ) → k < d.subcarriers → get_or m' k 0 ≡ expected r m k)
+pub none_wrong : (d : Device) (p : Plan) (w m m' y : List ℕ) (l j : ℕ) → l ≡ p.plc → Fits d → Marked d p m
+    → ((k : ℕ) → k < d.subcarriers → get_or m' k 0 ≡ expected ((l + d.plc_width + j) % phases) m k)
     → ((k : ℕ) → k < d.subcarriers → allowed_under (limit_at w k) m' y k ≡ true)
     → none ≡ lowest (wrong_cell (frame_of d p) w j y) d.subcarriers
 unfolding allowed_at
-none_wrong d p w m m' y l j r e is fits marked put fit =
+none_wrong d p w m m' y l j e fits marked put fit =
     let n : ℕ = d.subcarriers in
     let limits : List ℕ = tabulate (limit_at w) n in
     let are : (k : ℕ) → k < n → get_or limits k 0 ≡ limit_at w k = get_d_tabulate (limit_at w) n 0 in
     sym (none_lowest (λ k. not (allowed_at limits m' y k)) n (λ k h. ap not (ap (λ (a : ℕ). allowed_under a m' y k) (are k h) ∙ fit k h)))
-    ∙ wrong_is d p w limits m m' y l j r e is fits marked put are
+    ∙ wrong_is d p w limits m m' y l j e fits marked put are

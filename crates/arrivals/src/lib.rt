@@ -3,7 +3,6 @@
 ghost use Rattle.std.specs.Prelude.{◌≡◌, true, not, ℕ, ◌≤◌, ◌<◌, length, get_or};
 ghost use Rattle.counting.specs.Search.{bit, count, lowest};
 ghost use Rattle.counting.specs.Answer.{place_of};
-ghost use Rattle.rules.specs.Device.{phases};
 ghost use Rattle.rules.specs.declared.Finding.TheVariants.{Fine};
 ghost use Rattle.rules.specs.Plan.{plan_of};
 ghost use Rattle.rules.specs.Fits.{Fits, capacity};
@@ -14,7 +13,7 @@ ghost use Rattle.verdicts.specs.Studied.{Studied};
 ghost use Rattle.arrivals.specs.Expected.{allowed, allowed_at, scattered_mark, expected};
 
 use counting::{Found, wide};
-use rules::{CAPACITY, Device};
+use rules::Device;
 
 // Phases are 0 to 127.
 const PHASES: usize = 128;
@@ -34,7 +33,7 @@ fn scattered_mark(mark: u16) -> u16
 
 // Puts the scattered pilots among the marks: on the subcarriers that are `base` modulo 128.
 fn scatter(marks: &mut [u16], width: usize, base: usize)
-    requires { (base < phases) × (width ≤ capacity) × (width ≤ length marks.old) }
+    requires { (base < 128) × (width ≤ 4096) × (width ≤ length marks.old) }
     ensures { (k : ℕ) → k < width → get_or marks.new k 0 ≡ expected base marks.old k }
 {
     let mut k = base;
@@ -138,21 +137,21 @@ fn first_wrong(limits: &[u16], marks: &[u16], symbol: &[u16]) -> Found
 pub fn wrong_cell(
     d: Device,
     plan: &[u8],
-    marks: &mut [u16; CAPACITY],
+    marks: &mut [u16; 4096],
     profile: &[u8],
     j: usize,
     symbol: &[u16],
 ) -> Found
-    requires { Fits d × Studied d plan.now marks.old × (j < phases) × (length symbol.now ≡ d.subcarriers) × (ground25 d.subcarriers profile.now ≡ Fine) }
+    requires { Fits d × Studied d plan.now marks.old × (j ≤ 4096) × (length symbol.now ≡ d.subcarriers) × (ground25 d.subcarriers profile.now ≡ Fine) }
     ensures { place_of result ≡ lowest (wrong_cell (frame_of d (plan_of plan.now)) profile.now j symbol.now) d.subcarriers }
 {
     let l = records::number_at(plan, 4);
-    scatter(marks, d.subcarriers, roles::pattern_at(d, l, j));
+    scatter(marks, d.subcarriers, (l + d.plc_width + j) % PHASES);
     if fit_one_load(profile, marks, symbol) {
         return Found::Nothing;
     }
     let n = profile.len();
-    let mut limits = [0u16; CAPACITY];
+    let mut limits = [0u16; 4096];
     profiles::limits(profile, &mut limits[..n]);
     first_wrong(&limits[..n], marks, symbol)
 }

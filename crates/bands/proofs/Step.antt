@@ -1,11 +1,9 @@
 -- The loop of `bands`: what it keeps before each run, and one turn of it. Assumes nothing.
 use mathlib.Core.Path.{◌≡◌, refl, sym, ap, ◌∙◌}
-use mathlib.Core.Logic.{◌⊎◌, inl, inr, by_cases}
+use mathlib.Core.Logic.{◌⊎◌, inl, inr}
 use mathlib.Core.Bool.{Bool, true, false, ◌||◌}
 use mathlib.Core.List.{List}
 use Prim.Native.Nat.{ℕ, suc, ◌+◌, ◌-◌, ◌*◌, ◌≤◌, ◌<◌}
-use native.Mathlib.Nat.{suc-mul, mul-le-mul_right}
-use native.Mathlib.Decide.{dec_lt}
 use native.Mathlib.Numerals.{add-one}
 use native.Mathlib.Omega.{arith}
 use lib.Dec.{leb}
@@ -17,19 +15,9 @@ use Rattle.counting.proofs.Bools.{Less, decide, neither}
 use Rattle.rules.specs.declared.Device.{Device}
 use Rattle.rules.specs.Plan.{Plan}
 use Rattle.rules.specs.Bands.{excluded}
-use Rattle.rules.specs.Fits.{Fits, capacity, bands_max, limit}
+use Rattle.rules.specs.Fits.{Fits, capacity, limit}
 use Rattle.bands.specs.BandList.{EdgeRuns, BandList, Pushed}
 use Rattle.bands.proofs.BandWalk.{Walk, walk_start, walk_short, walk_long, walk_end}
-
-one_more : (m w : ℕ) → (m + 1) * w ≡ m * w + w
-one_more m w = ap (λ (x : ℕ). x * w) (add-one m) ∙ suc-mul m w
-
--- fewer than n times w are fewer than n
-times_below : (w m n : ℕ) → m * w < n * w → m < n
-times_below w m n h =
-    by_cases (dec_lt m n)
-    (λ l. l)
-    (λ l. let more : n * w ≤ m * w = mul-le-mul_right w (omega arith) in absurd (omega arith))
 
 -- what the test of `separates` says of the run e to u - 1
 module _ (size run e u : ℕ) where
@@ -44,16 +32,16 @@ module _ (size run e u : ℕ) where
   sep_false h = let both = neither (leb size u) (leb (e + run) u) h in (leb-false (e + run) u both.1, leb-false size u both.0)
 
 module _ (d : Device) (p : Plan) (lo hi : List ℕ) (n : ℕ) where
-  -- what the loop keeps before run i: an exclusion band lies before each band after the first, so that the places are enough for m bands
+  -- what the loop keeps before run i: 20 or more are excluded before each band after the first, so that 256 places are enough for m bands
   pub record Loop (a b c x : List ℕ) (m nx s i : ℕ) : Type 0 where
     pub first : 1 ≤ i
     pub last : i ≤ n
-    pub la : length a ≡ bands_max
-    pub lb : length b ≡ bands_max
-    pub lc : length c ≡ bands_max
-    pub lx : d.subcarriers ≤ length x
-    pub few : s < d.subcarriers → m * d.exclusion_run ≤ s
-    pub some : m * d.exclusion_run ≤ s + d.exclusion_run
+    pub la : length a ≡ 256
+    pub lb : length b ≡ 256
+    pub lc : length c ≡ 256
+    pub lx : length x ≡ capacity
+    pub few : s < d.subcarriers → 20 * m ≤ s
+    pub some : 20 * m ≤ s + 20
     pub walk : Walk d p a b c x (before hi i) m s nx
 
   -- the numbers in a turn
@@ -63,8 +51,7 @@ module _ (d : Device) (p : Plan) (lo hi : List ℕ) (n : ℕ) where
     pub top : get_or hi i 0 ≤ d.subcarriers
     pub s≤k : s ≤ before hi i
     pub nx≤k : nx ≤ before hi i
-    pub m≤ : m * d.exclusion_run ≤ s
-    pub room : suc m < bands_max
+    pub m≤ : 20 * m ≤ s
     pub fits : d.subcarriers ≤ capacity
     pub run : d.exclusion_run ≤ limit
 
@@ -84,10 +71,10 @@ module _ (d : Device) (p : Plan) (lo hi : List ℕ) (n : ℕ) where
         let u>e : get_or lo i 0 < get_or hi i 0 = one.some in
         let top : get_or hi i 0 ≤ d.subcarriers = one.inside in
         let s≤k : s ≤ before hi i = v.walk.low in
-        record { e>k = e>k; u>e = u>e; top = top; s≤k = s≤k; nx≤k = v.walk.small; m≤ = v.few (omega arith); room = omega (arith, times_below d.exclusion_run m 255 (omega (arith, v.few (omega arith), fit.runs_few))); fits = fit.few; run = fit.run_high }
+        record { e>k = e>k; u>e = u>e; top = top; s≤k = s≤k; nx≤k = v.walk.small; m≤ = v.few (omega arith); fits = fit.few; run = fit.run_high }
 
     -- before run 1
-    start : (a b c x : List ℕ) → length a ≡ bands_max → length b ≡ bands_max → length c ≡ bands_max → d.subcarriers ≤ length x → get_or c 0 0 ≡ 0 → Loop a b c x 0 0 (get_or hi 0 0) 1
+    start : (a b c x : List ℕ) → length a ≡ 256 → length b ≡ 256 → length c ≡ 256 → length x ≡ capacity → get_or c 0 0 ≡ 0 → Loop a b c x 0 0 (get_or hi 0 0) 1
     start a b c x la lb lc lx z =
         let one = r.runs.each 0 (omega (arith, r.two)) in
         let two = r.runs.each 1 r.two in
@@ -107,7 +94,7 @@ module _ (d : Device) (p : Plan) (lo hi : List ℕ) (n : ℕ) where
 
     -- over a short run
     next_short : (a b c x y : List ℕ) (m nx s i : ℕ) → Loop a b c x m nx s i → i < n → (leb d.subcarriers (get_or hi i 0) || leb (get_or lo i 0 + d.exclusion_run) (get_or hi i 0)) ≡ false
-        → Pushed x y nx (get_or lo i 0) (get_or hi i 0) → d.subcarriers ≤ length y → Loop a b c y m (nx + (get_or hi i 0 - get_or lo i 0)) s (i + 1)
+        → Pushed x y nx (get_or lo i 0) (get_or hi i 0) → length y ≡ capacity → Loop a b c y m (nx + (get_or hi i 0 - get_or lo i 0)) s (i + 1)
     next_short a b c x y m nx s i v l f push ly =
         let one = r.runs.each i l in
         let t = bounds a b c x m nx s i v l in
@@ -142,24 +129,24 @@ module _ (d : Device) (p : Plan) (lo hi : List ℕ) (n : ℕ) where
           lc = length-set c (m + 1) nx ∙ v.lc;
           lx = v.lx;
           few = λ w. few_at w long t;
-          some = omega (arith, t.m≤, t.s≤k, t.e>k, t.u>e, one_more m d.exclusion_run);
+          some = omega arith;
           walk = rw (add-one i) (walk_long d p (omega (arith, fit.run_low)) a b c x (before hi i) m s nx (get_or lo i 0) (get_or hi i 0) v.walk t.e>k t.u>e t.top one.gap one.all (free r i l) long m<a m<b m<c);
         }
       where
-        few_at : get_or hi i 0 < d.subcarriers → (get_or lo i 0 + d.exclusion_run ≤ get_or hi i 0) ⊎ (get_or hi i 0 ≡ d.subcarriers) → Bounds m nx s i → (m + 1) * d.exclusion_run ≤ get_or hi i 0
-        few_at w (inl h) t = omega (arith, t.m≤, t.s≤k, t.e>k, one_more m d.exclusion_run)
+        few_at : get_or hi i 0 < d.subcarriers → (get_or lo i 0 + d.exclusion_run ≤ get_or hi i 0) ⊎ (get_or hi i 0 ≡ d.subcarriers) → Bounds m nx s i → 20 * (m + 1) ≤ get_or hi i 0
+        few_at w (inl h) t = omega (arith, fit.run_low)
         few_at w (inr h) t = absurd (omega arith)
 
     -- after the last run
-    pub finish : (a b c x : List ℕ) (m nx s i : ℕ) → Loop a b c x m nx s i → n ≤ i → BandList d p a b c x m × (m < bands_max)
+    pub finish : (a b c x : List ℕ) (m nx s i : ℕ) → Loop a b c x m nx s i → n ≤ i → BandList d p a b c x m × (m < 256)
     finish a b c x m nx s i v l =
         let e : i ≡ n = omega (arith, v.last) in
         let k : before hi i ≡ d.subcarriers = ap (before hi) e ∙ r.top in
-        (walk_end d p a b c x (before hi i) m s nx v.walk k, times_below d.exclusion_run m bands_max (omega (arith, v.some, v.walk.low, fit.runs_few)))
+        (walk_end d p a b c x (before hi i) m s nx v.walk k, omega (arith, v.some, v.walk.low, fit.few))
 
     -- the same, as the code reads the runs
 
-    pub begin : (a b c x : List ℕ) (u : ℕ) → u ≡ get_or hi 0 0 → length a ≡ bands_max → length b ≡ bands_max → length c ≡ bands_max → d.subcarriers ≤ length x → Loop a b (set c 0 0) x 0 0 u 1
+    pub begin : (a b c x : List ℕ) (u : ℕ) → u ≡ get_or hi 0 0 → length a ≡ 256 → length b ≡ 256 → length c ≡ 256 → length x ≡ capacity → Loop a b (set c 0 0) x 0 0 u 1
     begin a b c x u e la lb lc lx = rw e (start a b (set c 0 0) x la lb (length-set c 0 0 ∙ lc) lx (get_or-set_same c 0 0 0 (omega arith)))
 
     pub turn_long : (a b c x : List ℕ) (m nx s i e u : ℕ) (t : Bool) → Loop a b c x m nx s i → i < n → e ≡ get_or lo i 0 → u ≡ get_or hi i 0 → t ≡ (leb d.subcarriers u || leb (e + d.exclusion_run) u) → t ≡ true
@@ -167,5 +154,5 @@ module _ (d : Device) (p : Plan) (lo hi : List ℕ) (n : ℕ) where
     turn_long a b c x m nx s i e u t v l p q f g = rw (p, q) (next_long a b c x m nx s i v l (rw (p, q) at (sym f ∙ g)))
 
     pub turn_short : (a b c x y : List ℕ) (m nx s i e u to : ℕ) (t : Bool) → Loop a b c x m nx s i → i < n → e ≡ get_or lo i 0 → u ≡ get_or hi i 0 → t ≡ (leb d.subcarriers u || leb (e + d.exclusion_run) u) → t ≡ false
-        → to ≡ nx + (u - e) → Pushed x y nx e u → d.subcarriers ≤ length y → Loop a b c y m to s (i + 1)
+        → to ≡ nx + (u - e) → Pushed x y nx e u → length y ≡ capacity → Loop a b c y m to s (i + 1)
     turn_short a b c x y m nx s i e u to t v l p q f g h push ly = rw (h, p, q) (next_short a b c x y m nx s i v l (rw (p, q) at (sym f ∙ g)) (rw (p, q) at push) ly)

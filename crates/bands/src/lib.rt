@@ -2,14 +2,11 @@
 // `plan` is lent for the contracts alone.
 ghost use Rattle.std.specs.Prelude.{◌≡◌, ◌||◌, leb, length, ◌+◌, ◌-◌, ◌≤◌, ◌<◌};
 ghost use Rattle.rules.specs.Plan.{plan_of};
-ghost use Rattle.rules.specs.Fits.{Fits, capacity, bands_max, limit};
+ghost use Rattle.rules.specs.Fits.{Fits, capacity, limit};
 ghost use Rattle.bands.specs.BandList.{EdgeRuns, BandList, Pushed};
 
 use counting::wide;
-use rules::{CAPACITY, Device};
-
-// The places of an array with one for each band, and one more.
-pub const BANDS: usize = 256;
+use rules::Device;
 
 // The run e to u - 1 is an exclusion band: it has `run` or more, or touches the last of `size` subcarriers.
 fn separates(size: usize, run: usize, e: usize, u: usize) -> bool
@@ -23,9 +20,9 @@ fn separates(size: usize, run: usize, e: usize, u: usize) -> bool
 }
 
 // The numbers e to u - 1 put into x from `at` on; the answer is the place after them.
-fn push(x: &mut [u16; CAPACITY], at: usize, e: usize, u: usize) -> usize
-    requires { (at + (u - e) ≤ length x.old) × (e ≤ u) × (u ≤ capacity) × (at + (u - e) ≤ capacity) }
-    ensures { (result ≡ at + (u - e)) × Pushed x.old x.new at e u × (length x.new ≡ length x.old) }
+fn push(x: &mut [u16; 4096], at: usize, e: usize, u: usize) -> usize
+    requires { (length x.old ≡ capacity) × (e ≤ u) × (u ≤ capacity) × (at + (u - e) ≤ capacity) }
+    ensures { (result ≡ at + (u - e)) × Pushed x.old x.new at e u × (length x.new ≡ capacity) }
 {
     let mut y = e;
     let mut q = at;
@@ -45,13 +42,13 @@ pub fn bands(
     lo: &[u16],
     hi: &[u16],
     n: usize,
-    a: &mut [u16; BANDS],
-    b: &mut [u16; BANDS],
-    c: &mut [u16; BANDS],
-    x: &mut [u16; CAPACITY],
+    a: &mut [u16; 256],
+    b: &mut [u16; 256],
+    c: &mut [u16; 256],
+    x: &mut [u16; 4096],
 ) -> usize
-    requires { Fits d × EdgeRuns d (plan_of plan.now) lo.now hi.now n × (length a.old ≡ bands_max) × (length b.old ≡ bands_max) × (length c.old ≡ bands_max) × (d.subcarriers ≤ length x.old) }
-    ensures { BandList d (plan_of plan.now) a.new b.new c.new x.new result × (result < bands_max) }
+    requires { Fits d × EdgeRuns d (plan_of plan.now) lo.now hi.now n × (length a.old ≡ 256) × (length b.old ≡ 256) × (length c.old ≡ 256) × (length x.old ≡ 4096) }
+    ensures { BandList d (plan_of plan.now) a.new b.new c.new x.new result × (result < 256) }
 {
     c[0] = 0;
     let mut m: usize = 0;

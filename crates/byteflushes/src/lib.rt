@@ -1,12 +1,11 @@
 // The places of a fresh emitter's store over two-byte cells, as flushes has them over cells. Only the bytes of its places are written.
-ghost use Rattle.std.specs.Prelude.{◌≡◌, ◌⊎◌, ◌+◌, ◌*◌, ◌≤◌, ◌<◌, length};
+ghost use Rattle.std.specs.Prelude.{◌≡◌, ◌+◌, ◌*◌, ◌≤◌, ◌<◌, length};
 ghost use Rattle.rules.specs.Device.{phases};
 ghost use Rattle.rules.specs.Fits.{capacity};
 ghost use Rattle.rules.specs.Plan.{plan_of};
 ghost use Rattle.rules.specs.Frame.{frame_of};
 ghost use Rattle.rules.specs.Places.{emitter_delay, places_before};
 ghost use Rattle.rules.specs.Store.{emitter_places, fresh_store};
-ghost use Rattle.pattern.specs.Until.{symbols_until};
 ghost use Rattle.flushes.specs.Spotted.{Spotted};
 ghost use Rattle.flushes.specs.Placeholders.{with_placeholder, with_placeholders};
 ghost use Rattle.bytecells.specs.Octets.{cells_of, bytes_of, Whole};
@@ -30,17 +29,17 @@ fn put_placeholder(store: &mut [u8], at: usize, delay: usize, i: usize)
     }
 }
 
-// The placeholders among the places of the cells, whose subcarriers are kc: of each cell at most one. The next symbol is at phase j; at phase
-// 0 the pattern stands on the subcarriers that are `base` modulo 128, and from phase to phase it moves up by `step`.
-fn put_placeholders(m: usize, step: usize, base: usize, j: usize, kc: &[u16], store: &mut [u8])
-    requires { (0 < m) × (m ≤ capacity) × ((step ≡ 1) ⊎ (step ≡ 2)) × (j < phases) × (length kc.now ≤ capacity) × Whole store.old × (2 * places_before (emitter_delay m) (length kc.now) ≤ length store.old) }
-    ensures { store.new ≡ bytes_of (with_placeholders m (symbols_until step base j) kc.now (cells_of store.old) (length kc.now)) }
+// The placeholders among the places of the cells, whose subcarriers are kc: of each cell at most one. Now the pattern stands on the subcarriers
+// that are `base` modulo 128.
+fn put_placeholders(m: usize, base: usize, kc: &[u16], store: &mut [u8])
+    requires { (0 < m) × (m ≤ capacity) × (length kc.now ≤ capacity) × Whole store.old × (2 * places_before (emitter_delay m) (length kc.now) ≤ length store.old) }
+    ensures { store.new ≡ bytes_of (with_placeholders m base kc.now (cells_of store.old) (length kc.now)) }
 {
     let mut p = 0;
     let mut at = 0;
     let mut delay = 0;
     while p < kc.len() {
-        let i = pattern::symbols_until(step, base, j, kc[p]);
+        let i = pattern::symbols_until(base, kc[p]);
         put_placeholder(store, at, delay, i);
         at = at + delay;
         let next = flushes::next_delay(delay, m);
@@ -57,5 +56,5 @@ pub fn fresh_places(d: Device, plan: &[u8], j: usize, kc: &[u16], store: &mut [u
     let l = records::number_at(plan, 4);
     let m = records::number_at(plan, 6);
     bytewrite::write_same(store, places::emitter_places(m, kc.len()), FILLER);
-    put_placeholders(m, d.scatter_step, l + d.plc_width, j, kc, store);
+    put_placeholders(m, l + d.plc_width + j, kc, store);
 }

@@ -3,7 +3,7 @@
 // as it was.
 ghost use Rattle.std.specs.Prelude.{◌*◌, ◌≤◌, ◌≡◌, length, get_or};
 ghost use Rattle.std.proofs.lemmas.List.Edits.{sets};
-ghost use Rattle.rules.specs.Device.{device_of};
+ghost use Rattle.rules.specs.Device.{khz50};
 ghost use Rattle.rules.specs.Fits.{Fits};
 ghost use Rattle.bytecells.specs.Octets.{cells_of};
 ghost use Rattle.pilots.specs.Pilots.{pilots_most};
@@ -37,7 +37,7 @@ fn put_list(p: PilotAnswer, list: &mut [u8]) -> CountAnswer
 
 // The continuous pilots of a plan in rising order, two bytes each.
 pub fn pilots(plan: &[u8], list: &mut [u8]) -> CountAnswer
-    ensures { leaves_list result list.new ≡ pilots_bytes (device_of plan.now) plan.now list.old }
+    ensures { leaves_list result list.new ≡ pilots_bytes khz50 plan.now list.old }
 {
     if list.len() < LIST {
         return CountAnswer::Refused(21, 0);
@@ -112,7 +112,7 @@ fn put_lights(a: LampAnswer, lights: &mut [u8]) -> CountAnswer
 
 // The lamp is given a symbol: its record goes on, and its lights go to the buffer, one byte a pilot.
 pub fn lamp(plan: &[u8], symbol: &[u8], counts: &mut [u8], lights: &mut [u8]) -> CountAnswer
-    ensures { leaves_lamp result counts.new lights.new ≡ lamp_bytes (device_of plan.now) plan.now symbol.now counts.old lights.old }
+    ensures { leaves_lamp result counts.new lights.new ≡ lamp_bytes khz50 plan.now symbol.now counts.old lights.old }
 {
     if bytecells::halved(symbol) {
         return CountAnswer::Refused(21, 0);
@@ -120,6 +120,6 @@ pub fn lamp(plan: &[u8], symbol: &[u8], counts: &mut [u8], lights: &mut [u8]) ->
     if lights.len() < PILOTS {
         return CountAnswer::Refused(21, 0);
     }
-    let answer = lamp_on(rules::device_of(plan), plan, symbol, counts);
+    let answer = lamp_on(rules::khz50_device(), plan, symbol, counts);
     put_lights(answer, lights)
 }

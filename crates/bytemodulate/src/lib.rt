@@ -6,7 +6,6 @@ ghost use Rattle.modulator.specs.Symbols.{modulates};
 ghost use Rattle.bytemodulate.specs.ByteSymbols.{modulate_bytes};
 
 use modulator::ModulateAnswer;
-use rules::CAPACITY;
 
 // Fills a modulator symbol: refused by 21, then as over cells.
 pub fn modulate(symbol: &[u8], loads: &[u8], minus: &[u8], out: &mut [f32]) -> ModulateAnswer
@@ -19,7 +18,7 @@ pub fn modulate(symbol: &[u8], loads: &[u8], minus: &[u8], out: &mut [f32]) -> M
     if symbol.len() / 2 != d.subcarriers {
         return ModulateAnswer::Refused(17, 0, 0);
     }
-    let mut cells = [0u16; CAPACITY];
+    let mut cells = [0u16; 4096];
     bytecells::read_cells(symbol, &mut cells);
     modulate::modulate(&cells, loads, minus, out)
 }

@@ -4,8 +4,8 @@
 ghost use Rattle.std.specs.Prelude.{◌≡◌, false, ◌||◌, [], ◌*◌, ◌≤◌, ◌<◌, length};
 ghost use Rattle.std.proofs.lemmas.List.Edits.{sets};
 ghost use Rattle.counting.specs.Search.{count, is_zero};
-ghost use Rattle.rules.specs.Device.{device_of};
-ghost use Rattle.rules.specs.Fits.{Fits, capacity};
+ghost use Rattle.rules.specs.Device.{khz50};
+ghost use Rattle.rules.specs.Fits.{Fits};
 ghost use Rattle.rules.specs.Plan.{plan_of};
 ghost use Rattle.rules.specs.Frame.{frame_of, cells, line_cells};
 ghost use Rattle.rules.specs.Places.{receiver_delay, places_before, oldest, moved};
@@ -16,7 +16,7 @@ ghost use Rattle.bytecells.specs.ByteSteps.{heard_bytes, receive_bytes};
 ghost use Rattle.receivegrounds.specs.InOrder.{ReceiveInOrder, Prepared, Spots};
 
 use receivegrounds::Admission;
-use rules::{CAPACITY, Device, ReceiveAnswer, ReceiverState};
+use rules::{Device, ReceiveAnswer, ReceiverState};
 
 // Whether a lent cell buffer has odd length (ground 21).
 fn some_halved(store: &[u8], symbol: &[u8], buffer: &[u8]) -> bool
@@ -33,7 +33,7 @@ fn some_halved(store: &[u8], symbol: &[u8], buffer: &[u8]) -> bool
 
 // The arriving cells y go into the store in cell order, and x takes the oldest of each cell.
 fn take_in(d: Device, plan: &[u8], m: usize, kc: &[u16], y: &[u16], store: &mut [u8], x: &mut [u16])
-    requires { Fits d × Whole store.old × (0 < m) × (m ≤ capacity) × (length y.now ≡ d.subcarriers) × (length x.old ≡ cells (frame_of d (plan_of plan.now))) × (length x.old ≤ capacity) × (length x.old ≤ length kc.now) × (2 * places_before (receiver_delay m) (length x.old) ≤ length store.old) × Spots (frame_of d (plan_of plan.now)) kc.now }
+    requires { Fits d × Whole store.old × (0 < m) × (m ≤ 4096) × (length y.now ≡ d.subcarriers) × (length x.old ≡ cells (frame_of d (plan_of plan.now))) × (length x.old ≤ 4096) × (length x.old ≤ length kc.now) × (2 * places_before (receiver_delay m) (length x.old) ≤ length store.old) × Spots (frame_of d (plan_of plan.now)) kc.now }
     ensures stored { store.new ≡ bytes_of (moved (receiver_delay m) (length x.old) (cells_of store.old) (line_cells (frame_of d (plan_of plan.now)) y.now)) }
     ensures taken { x.new ≡ oldest (receiver_delay m) (length x.old) (cells_of store.old) (line_cells (frame_of d (plan_of plan.now)) y.now) }
 {
@@ -43,10 +43,10 @@ fn take_in(d: Device, plan: &[u8], m: usize, kc: &[u16], y: &[u16], store: &mut 
 
 // The data of an input symbol, nd of its cells, goes to the start of the buffer.
 fn hand_out(cells: &[u16], flag: &[u8], nd: usize, buffer: &mut [u8])
-    requires { Whole buffer.old × (length cells.now ≤ capacity) × (length cells.now ≤ length flag.now) × (count (is_zero flag.now) (length cells.now) ≡ nd) × (2 * nd ≤ length buffer.old) }
+    requires { Whole buffer.old × (length cells.now ≤ 4096) × (length cells.now ≤ length flag.now) × (count (is_zero flag.now) (length cells.now) ≡ nd) × (2 * nd ≤ length buffer.old) }
     ensures { buffer.new ≡ bytes_of (sets (cells_of buffer.old) 0 (taken_data flag.now cells.now)) }
 {
-    let mut given = [0u16; CAPACITY];
+    let mut given = [0u16; 4096];
     taking::take_data(cells, flag, &mut given[..nd]);
     bytewrite::write_cells(buffer, 0, &given[..nd]);
 }
@@ -69,7 +69,7 @@ fn hear(
     requires { Fits d × Whole store.old × Whole buffer.old × ReceiveInOrder (frame_of d (plan_of plan.now)) (record { state = state; store = cells_of store.old }) (record { profile = []; symbol = y.now; buffer = cells_of buffer.old }) m n nd × Prepared (frame_of d (plan_of plan.now)) (out_phase (frame_of d (plan_of plan.now)) state.phase) kc.now flag.now }
     ensures { hears result store.new buffer.new ≡ heard_bytes (received (frame_of d (plan_of plan.now)) (record { state = state; store = cells_of store.old }) (record { profile = []; symbol = y.now; buffer = cells_of buffer.old })) }
 {
-    let mut x = [0u16; CAPACITY];
+    let mut x = [0u16; 4096];
     take_in(d, plan, m, kc, y, store, &mut x[..n]);
     let next = receiving::next_state(m, state);
     if receiving::warms(state.heard, m) {
@@ -89,12 +89,12 @@ fn receive_whole(
     buffer: &mut [u8],
 ) -> ReceiveAnswer
     requires { Whole store.old × Whole symbol.now × Whole buffer.old }
-    ensures { hears result store.new buffer.new ≡ heard_bytes (receive_step (device_of plan.now) plan.now profile.now state (cells_of store.old) (cells_of symbol.now) (cells_of buffer.old)) }
+    ensures { hears result store.new buffer.new ≡ heard_bytes (receive_step khz50 plan.now profile.now state (cells_of store.old) (cells_of symbol.now) (cells_of buffer.old)) }
 {
-    let d = rules::device_of(plan);
-    let mut y = [0u16; CAPACITY];
-    let mut kc = [0u16; CAPACITY];
-    let mut flag = [0u8; CAPACITY];
+    let d = rules::khz50_device();
+    let mut y = [0u16; 4096];
+    let mut kc = [0u16; 4096];
+    let mut flag = [0u8; 4096];
     let width = bytecells::read_first(symbol, &mut y);
     match receivegrounds::admit(
         d,
@@ -109,19 +109,9 @@ fn receive_whole(
         &mut flag,
     ) {
         Admission::Refused(g, place) => ReceiveAnswer::Refused(g, place, state),
-        Admission::Admitted(m, n, nd) => hear(
-            d,
-            plan,
-            m,
-            n,
-            nd,
-            state,
-            &kc,
-            &flag,
-            &y[..width],
-            store,
-            buffer,
-        ),
+        Admission::Admitted(m, n, nd) => {
+            hear(d, plan, m, n, nd, state, &kc, &flag, &y, store, buffer)
+        }
     }
 }
 
@@ -135,7 +125,7 @@ pub fn receive(
     symbol: &[u8],
     buffer: &mut [u8],
 ) -> ReceiveAnswer
-    ensures { hears result store.new buffer.new ≡ receive_bytes (device_of plan.now) plan.now profile.now state store.old symbol.now buffer.old }
+    ensures { hears result store.new buffer.new ≡ receive_bytes khz50 plan.now profile.now state store.old symbol.now buffer.old }
 {
     if some_halved(store, symbol, buffer) {
         return ReceiveAnswer::Refused(21, 0, state);

@@ -10,7 +10,7 @@ use Rattle.counting.proofs.Bools.{by_test}
 use Rattle.rules.specs.declared.Device.{Device}
 use Rattle.rules.specs.declared.Finding.TheVariants.{Fine}
 use Rattle.rules.specs.declared.Verdict.TheVariants.{Accepted}
-use Rattle.rules.specs.Device.{device_of}
+use Rattle.rules.specs.Device.{khz50}
 use Rattle.rules.specs.Plan.{plan_of}
 use Rattle.rules.specs.Grounds.{grounds1to15, verdict}
 use Rattle.rules.specs.Frame.{Frame, frame_of, data_count, Given, flush, symbol}
@@ -135,10 +135,10 @@ module _ (d : Device) (s : List ℕ) (fine : grounds1to15 d s ≡ Fine) where
         streams = λ w listed. streams F (byte_entries d s) w (fills_as d s fine w) listed C.some_data phase_in (bytes_unique d s F D) (bytes_returned d s F D);
       }
 
--- every plan that its device accepts
-module _ (s : List ℕ) (n : ℕ) (e : verdict (device_of s) s ≡ Accepted n) where
-  pub accepted_demand3_bytes : Demand3 (frame_of (device_of s) (plan_of s)) (byte_entries (device_of s) s)
-  accepted_demand3_bytes = bytes_demand3 (device_of s) s (no_ground (device_of s) s n (sym e)) (accepted_demand3 s n e) (accepted_claims s n e)
+-- every plan that the 50 kHz device accepts
+module _ (s : List ℕ) (n : ℕ) (e : verdict khz50 s ≡ Accepted n) where
+  pub accepted_demand3_bytes : Demand3 (frame_of khz50 (plan_of s)) (byte_entries khz50 s)
+  accepted_demand3_bytes = bytes_demand3 khz50 s (no_ground khz50 s n (sym e)) (accepted_demand3 s n e) (accepted_claims s n e)
 
-  pub accepted_claims_bytes : PlanClaims (frame_of (device_of s) (plan_of s)) (byte_entries (device_of s) s)
-  accepted_claims_bytes = bytes_claims (device_of s) s (frame_of (device_of s) (plan_of s)) (accepted_claims s n e)
+  pub accepted_claims_bytes : PlanClaims (frame_of khz50 (plan_of s)) (byte_entries khz50 s)
+  accepted_claims_bytes = bytes_claims khz50 s (frame_of khz50 (plan_of s)) (accepted_claims s n e)

@@ -17,7 +17,7 @@ use Rattle.rules.specs.declared.ReceiveAnswer.TheVariants as a-receive
 use Rattle.rules.specs.declared.CountAnswer.{CountAnswer}
 use Rattle.rules.specs.declared.CountAnswer.TheVariants as a-count
 use Rattle.rules.specs.declared.Verdict.TheVariants.{Accepted}
-use Rattle.rules.specs.Device.{device_of}
+use Rattle.rules.specs.Device.{khz50}
 use Rattle.rules.specs.Plan.{plan_of}
 use Rattle.rules.specs.Grounds.{verdict}
 use Rattle.rules.specs.Frame.{frame_of, Given, flush, symbol}
@@ -25,7 +25,7 @@ use Rattle.rules.specs.Steps.{Emitter, Sending, leaves, Starting, starts}
 use Rattle.rules.specs.Receive.{Receiver, Arrival, Receiving, hears, Listening, listens}
 use Rattle.rules.specs.Filling.{Filling, fills}
 use Rattle.facts.specs.Roomy.{Roomy}
-use Rattle.facts.proofs.Sizes.{plan_roomy}
+use Rattle.facts.proofs.Sizes.{khz50_roomy}
 use Rattle.bytecells.specs.Octets.{cells_of, odd}
 use Rattle.bytecells.specs.ByteSteps.{start_bytes, listen_bytes, emit_bytes, flush_bytes, receive_bytes, fill_bytes, unfill_bytes}
 use Rattle.answerbytes.specs.declared.Told.{Told}
@@ -134,10 +134,10 @@ module _ (d : Device) (s : List ℕ) (roomy : Roomy d) (a : List ℕ) (room_for 
 pub any_buffer : (d : Device) (s : List ℕ) → Roomy d → AnyBuffer d s
 any_buffer d s roomy a a' room_for room-for' = calls_are d s roomy a room_for ∙ sym (calls_are d s roomy a' room-for')
 
--- every plan that its device accepts
-module _ (s : List ℕ) (n : ℕ) (e : verdict (device_of s) s ≡ Accepted n) (a : List ℕ) (room_for : short a ≡ false) where
-  pub accepted_demand3_calls : Demand3 (frame_of (device_of s) (plan_of s)) (call_entries (device_of s) s a)
-  accepted_demand3_calls = subst (Demand3 (frame_of (device_of s) (plan_of s))) (sym (calls_are (device_of s) s (plan_roomy s) a room_for)) (accepted_demand3_bytes s n e)
+-- every plan that the 50 kHz device accepts
+module _ (s : List ℕ) (n : ℕ) (e : verdict khz50 s ≡ Accepted n) (a : List ℕ) (room_for : short a ≡ false) where
+  pub accepted_demand3_calls : Demand3 (frame_of khz50 (plan_of s)) (call_entries khz50 s a)
+  accepted_demand3_calls = subst (Demand3 (frame_of khz50 (plan_of s))) (sym (calls_are khz50 s khz50_roomy a room_for)) (accepted_demand3_bytes s n e)
 
-  pub accepted_claims_calls : PlanClaims (frame_of (device_of s) (plan_of s)) (call_entries (device_of s) s a)
-  accepted_claims_calls = subst (PlanClaims (frame_of (device_of s) (plan_of s))) (sym (calls_are (device_of s) s (plan_roomy s) a room_for)) (accepted_claims_bytes s n e)
+  pub accepted_claims_calls : PlanClaims (frame_of khz50 (plan_of s)) (call_entries khz50 s a)
+  accepted_claims_calls = subst (PlanClaims (frame_of khz50 (plan_of s))) (sym (calls_are khz50 s khz50_roomy a room_for)) (accepted_claims_bytes s n e)

@@ -33,7 +33,7 @@ use Rattle.rules.specs.Store.{emitter_places, receiver_places, fresh_store, fill
 use Rattle.rules.specs.Steps.{Emitter, Send, Sending, Starting, starts, refused, ground16, short_store, ground17, profile_ground, ground18, given_grounds, send_grounds, accepted, frame_step, start_grounds, frame_start, frame_count, send_step, start_step, data_count_answer}
 use Rattle.rules.specs.Receive as receive
 use Rattle.rules.specs.Receive.{Receiver, Arrival, Receiving, Listening, listens, turned_away, short_buffer, wrong_cell, receiver_ground16, receiver_ground17, ground20, receive_grounds, received, frame_receive, frame_listen, hear_step, listen_step}
-use Rattle.copies.specs.Copy.{plan_max, copy_with}
+use Rattle.copies.specs.Copy.{copy_with}
 use Rattle.exclusion.specs.Trial.{trial_verdict, too_large, trial_of_numbers}
 use Rattle.rules.specs.declared.WhyAnswer.{WhyAnswer}
 use Rattle.rules.specs.declared.WhyAnswer.TheVariants as a-why
@@ -195,8 +195,8 @@ module _ (d : Device) (s : List ℕ) where
   unfolding trial_of_numbers trial_verdict
   trial_zero a b =
       by_test (too_large a b)
-      (λ t. rw t (answer_zero (grounds1to5 d s else ground? 1 (when (ltb plan_max (length s + 8)) 0) else Ground 4 (length s / 8)) 0
-      (both (grounds1to5 d s) _ (early_numbered d s) (more 1 (when (ltb plan_max (length s + 8)) 0) (Ground 4 (length s / 8)) refl (unfold numbered in refl)))))
+      (λ t. rw t (answer_zero (grounds1to5 d s else ground? 1 (when (ltb 4096 (length s + 8)) 0) else Ground 4 (length s / 8)) 0
+      (both (grounds1to5 d s) _ (early_numbered d s) (more 1 (when (ltb 4096 (length s + 8)) 0) (Ground 4 (length s / 8)) refl (unfold numbered in refl)))))
       (λ t. rw t (by_ground (λ (v : Verdict). (told_verdict v).number) is_accepted (grounds1to5 d s) (verdict d (copy_with s a b)) Refused (early_numbered d s) (verdict_zero d (copy_with s a b)) (λ n place. (refl, refl))))
 
   pub role_zero : (k j : ℕ) → eqb (told_role (role_answer d s k j)).number 0 ≡ is_role (role_answer d s k j)

@@ -117,6 +117,6 @@ module _ (d : Device) (s : List ℕ) where
         zero (λ (x : FillSaid). x.said.number) (short a) (says_fill 21 l a) (list_told (pilots_bytes d s l) a) (is_count (pilots_bytes d s l).answer) refl (pilots_bytes_lem l);
     heard = λ y r l a.
         zero (λ (x : LampSaid). x.said.number) (short a) (says_lamp 21 r l a) (lamp_told (lamp_bytes d s y r l) a) (is_count (lamp_bytes d s y r l).answer) refl (lamp_bytes_lem y r l);
-    modulated = λ m y loads minus l a.
-        zero (λ (x : NumbersSaid). x.said.number) (short a) (says_numbers 21 l a) (modulate_told (modulate_bytes y loads minus m l) a) (is_modulated (modulate_bytes y loads minus m l).answer) refl (modulate_bytes_lem y loads minus m l);
+    modulated = λ y loads minus l a.
+        zero (λ (x : NumbersSaid). x.said.number) (short a) (says_numbers 21 l a) (modulate_told (modulate_bytes y loads minus d l) a) (is_modulated (modulate_bytes y loads minus d l).answer) refl (modulate_bytes_lem y loads minus d l);
   }

@@ -80,9 +80,9 @@ pub record ZeroIsAccepted (d : Device) (s : List ℕ) : Type 0 where
       → ((unfill_call d s w j ds start stream a).said.number ≡ 0) ↔ ((short a ≡ false) × (is_count (unfill_bytes d s w j ds start stream).answer ≡ true))
   pub listed : (l a : List ℕ) → ((pilots_call d s l a).said.number ≡ 0) ↔ ((short a ≡ false) × (is_count (pilots_bytes d s l).answer ≡ true))
   pub heard : (y r l a : List ℕ) → ((lamp_call d s y r l a).said.number ≡ 0) ↔ ((short a ≡ false) × (is_count (lamp_bytes d s y r l).answer ≡ true))
-  -- this one is given no plan: of any device, so of the one that the symbol's length says
-  pub modulated : (m : Device) (y loads minus : List ℕ) (l : List Float) (a : List ℕ)
-      → ((modulate_call m y loads minus l a).said.number ≡ 0) ↔ ((short a ≡ false) × (is_modulated (modulate_bytes y loads minus m l).answer ≡ true))
+  -- this one is given no plan
+  pub modulated : (y loads minus : List ℕ) (l : List Float) (a : List ℕ)
+      → ((modulate_call d y loads minus l a).said.number ≡ 0) ↔ ((short a ≡ false) × (is_modulated (modulate_bytes y loads minus d l).answer ≡ true))
 
 -- A receive call that returns 0 leaves the value 0 exactly if it answers warming.
 abbrev pub ZeroIsWarming : Device → List ℕ → Type 0

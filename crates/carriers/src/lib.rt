@@ -3,7 +3,6 @@
 ghost use Rattle.std.specs.Prelude.{◌≡◌, ℕ, ◌+◌, ◌≤◌, ◌<◌, eqb, length, get_or};
 ghost use Rattle.counting.specs.Search.{bit, count, select, is_zero};
 ghost use Rattle.carriers.specs.Listed.{Listed};
-ghost use Rattle.rules.specs.Fits.{capacity};
 
 use counting::wide;
 
@@ -16,7 +15,7 @@ fn one_if_zero(x: u16) -> u16
 
 // How many of the 8 marks from k on are 0.
 fn zeros(mark: &[u16], k: usize) -> u16
-    requires { (k ≤ capacity) × (k + 8 ≤ length mark.now) }
+    requires { (k ≤ 4096) × (k + 8 ≤ length mark.now) }
     ensures { result ≡ count (λ i. is_zero mark.now (k + i)) 8 }
 {
     let mut n: u16 = 0;
@@ -30,7 +29,7 @@ fn zeros(mark: &[u16], k: usize) -> u16
 
 // Stores 8 subcarriers from k on behind the n that are listed, all of them ranked.
 fn take_all(mark: &[u16], k: usize, n: usize, car: &mut [u16])
-    requires { (k + 8 ≤ capacity) × (k + 8 ≤ length car.old) × (count (λ i. is_zero mark.now (k + i)) 8 ≡ 8) × Listed mark.now k n car.old }
+    requires { (k + 8 ≤ 4096) × (k + 8 ≤ length car.old) × (count (λ i. is_zero mark.now (k + i)) 8 ≡ 8) × Listed mark.now k n car.old }
     ensures { Listed mark.now (k + 8) (n + 8) car.new }
 {
     let mut i: usize = 0;
@@ -43,7 +42,7 @@ fn take_all(mark: &[u16], k: usize, n: usize, car: &mut [u16])
 // Stores the ranked subcarriers from `from` to `to` behind the n that are listed, and says how many there are then. Each is stored; the
 // next one takes its place where it has no rank.
 fn take_some(mark: &[u16], from: usize, to: usize, n: usize, car: &mut [u16]) -> usize
-    requires { (from ≤ to) × (to ≤ capacity) × (to ≤ length mark.now) × (to ≤ length car.old) × Listed mark.now from n car.old }
+    requires { (from ≤ to) × (to ≤ 4096) × (to ≤ length mark.now) × (to ≤ length car.old) × Listed mark.now from n car.old }
     ensures { Listed mark.now to result car.new }
 {
     let mut m = n;
@@ -58,7 +57,7 @@ fn take_some(mark: &[u16], from: usize, to: usize, n: usize, car: &mut [u16]) ->
 
 // The ranked ones of the 8 subcarriers from k on, behind the n that are listed.
 fn block(mark: &[u16], k: usize, n: usize, car: &mut [u16]) -> usize
-    requires { (k + 8 ≤ capacity) × (k + 8 ≤ length mark.now) × (k + 8 ≤ length car.old) × Listed mark.now k n car.old }
+    requires { (k + 8 ≤ 4096) × (k + 8 ≤ length mark.now) × (k + 8 ≤ length car.old) × Listed mark.now k n car.old }
     ensures { Listed mark.now (k + 8) result car.new }
 {
     let z = zeros(mark, k);
@@ -74,7 +73,7 @@ fn block(mark: &[u16], k: usize, n: usize, car: &mut [u16]) -> usize
 
 // The subcarriers with a rank in rising order, and their number.
 pub fn carriers(mark: &[u16], width: usize, car: &mut [u16]) -> usize
-    requires { (width ≤ capacity) × (width ≤ length mark.now) × (width ≤ length car.old) }
+    requires { (width ≤ 4096) × (width ≤ length mark.now) × (width ≤ length car.old) }
     ensures number { result ≡ count (is_zero mark.now) width }
     ensures listed { (i : ℕ) → i < result → get_or car.new i 0 ≡ select (is_zero mark.now) width i }
 {

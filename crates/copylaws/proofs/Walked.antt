@@ -66,7 +66,6 @@ module _ (d : Device) (s : List ℕ) (a b : ℕ) (fine : grounds1to5 d s ≡ Fin
       finding = chain_findings d s a b fine ∙ sym (new_grounds d records np a b some);
       table = w.table;
       flags = w.flags;
-      begins = omega (arith, w.begins);
       covered = λ k l. copy_excluded d s a b fine k ∙ ap₂ (λ (x y : Bool). x || y) (sym (w.covered k l)) (sym (or_false (within a b k)));
       nums = pilot_numbers (λ e. e.low) (λ e. refl) ∙ w.nums ∙ sym (append-nil (take np pil));
       recs = pilot_numbers (λ e. e.index) (λ e. refl) ∙ w.recs ∙ sym (append-nil (take np rec));

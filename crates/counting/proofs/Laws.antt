@@ -1,6 +1,6 @@
 -- Laws of counting and searching, for any test and any n. Assumes nothing.
 use mathlib.Core.Path.{◌≡◌, refl, sym, ap, ap₂, ◌∙◌, subst}
-use mathlib.Core.Logic.{◌⊎◌, inl, inr, by_cases}
+use mathlib.Core.Logic.{◌⊎◌, inl, inr}
 use mathlib.Core.Bool.{Bool, true, false}
 use mathlib.Core.Option.{Option, none, some}
 use mathlib.Core.List.{List, [], ◌++◌}
@@ -8,7 +8,7 @@ use Prim.Native.Nat.{ℕ, zero, suc, ◌+◌, ◌≤◌, ◌<◌, zero-le}
 use native.Mathlib.Nat.{add-zero, zero-add, add-suc, suc-add, not-suc-le-zero, le_refl, le-suc, le_trans, lt_irrefl, eq-or-lt_of_le, le_of_suc-le-suc, le_of_eq}
 use native.Mathlib.Numerals.{add-one}
 use native.Mathlib.Omega.{arith}
-use native.Mathlib.Decide.{le_ind, ℕ_discrete}
+use native.Mathlib.Decide.{le_ind}
 use lib.Seq.{get_or_at}
 use lib.ListN.{length, get_or, length-append, get_or-append}
 use Rattle.counting.specs.Search.{bit, sum, count, when, or_else, first, lowest, keep, those}
@@ -72,19 +72,6 @@ count_insert p q x (suc n) l e f h = go (below_suc l) (λ m. count_insert p q x 
 bit_mono : (a b : Bool) → (a ≡ true → b ≡ true) → bit a ≤ bit b
 bit_mono true b h = le_of_eq (sym (ap bit (h refl)))
 bit_mono false b h = zero-le
-
--- tests that differ at one number at most
-one_other : (p q : ℕ → Bool) (x : ℕ) → ((k : ℕ) → (k ≡ x → ⊥) → p k ≡ q k) → (n : ℕ) → (count p n ≤ count q n + 1) × (n ≤ x → count p n ≡ count q n)
-unfolding count sum
-one_other p q x h zero = (zero-le, λ l. refl)
-one_other p q x h (suc n) =
-    let ih = one_other p q x h n in
-    by_cases (ℕ_discrete n x)
-    (λ e. (omega (arith, ih.1 (omega arith), bit_le (p n)), λ l. absurd (omega arith)))
-    (λ e. let same : bit (p n) ≡ bit (q n) = ap bit (h n e) in (omega (arith, ih.0), λ l. omega (arith, ih.1 (omega arith))))
-
-pub count_other : (p q : ℕ → Bool) (x n : ℕ) → ((k : ℕ) → (k ≡ x → ⊥) → p k ≡ q k) → count p n ≤ count q n + 1
-count_other p q x n h = (one_other p q x h n).0
 
 -- the second passes wherever the first does
 pub count_mono : (p q : ℕ → Bool) (n : ℕ) → ((k : ℕ) → k < n → p k ≡ true → q k ≡ true) → count p n ≤ count q n

@@ -1,11 +1,11 @@
 // The emitter: an emit step and a flush step. The entries `emit` and `flush` read the plan bytes anew and ask nothing of their caller; what
 // they refuse, they leave as it was.
 ghost use Rattle.std.specs.Prelude.{◌≡◌};
-ghost use Rattle.rules.specs.Device.{device_of};
+ghost use Rattle.rules.specs.Device.{khz50};
 ghost use Rattle.rules.specs.Steps.{leaves, emit_step, flush_step};
 ghost use Rattle.sending.specs.Sent.{step_by};
 
-use rules::{CAPACITY, EmitterState, SendAnswer, Verdict};
+use rules::{EmitterState, SendAnswer, Verdict};
 
 // An emit or flush step; a flush reads no profile and no input. Where no ground refuses it, the input symbol goes to the places of its cells, and the delayed
 // cells go out on their subcarriers.
@@ -18,12 +18,12 @@ fn send(
     input: &[u16],
     symbol: &mut [u16],
 ) -> SendAnswer
-    ensures { leaves result store.new symbol.new ≡ step_by (device_of plan.now) plan.now profile.now flushing state store.old input.now symbol.old }
+    ensures { leaves result store.new symbol.new ≡ step_by khz50 plan.now profile.now flushing state store.old input.now symbol.old }
 {
-    let d = rules::device_of(plan);
-    let mut marks = [0u16; CAPACITY];
-    let mut car = [0u16; CAPACITY];
-    let mut x = [0u16; CAPACITY];
+    let d = rules::khz50_device();
+    let mut marks = [0u16; 4096];
+    let mut car = [0u16; 4096];
+    let mut x = [0u16; 4096];
     match sendgrounds::admit(
         d,
         plan,
@@ -59,14 +59,14 @@ pub fn emit(
     input: &[u16],
     symbol: &mut [u16],
 ) -> SendAnswer
-    ensures { leaves result store.new symbol.new ≡ emit_step (device_of plan.now) plan.now profile.now state store.old input.now symbol.old }
+    ensures { leaves result store.new symbol.new ≡ emit_step khz50 plan.now profile.now state store.old input.now symbol.old }
 {
     send(plan, profile, false, state, store, input, symbol)
 }
 
 // A flush step: the same with filler in every data cell, and without a profile.
 pub fn flush(plan: &[u8], state: EmitterState, store: &mut [u16], symbol: &mut [u16]) -> SendAnswer
-    ensures { leaves result store.new symbol.new ≡ flush_step (device_of plan.now) plan.now state store.old symbol.old }
+    ensures { leaves result store.new symbol.new ≡ flush_step khz50 plan.now state store.old symbol.old }
 {
     let no_profile = [0u8; 1];
     let no_data = [0u16; 1];

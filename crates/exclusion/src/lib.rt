@@ -5,7 +5,7 @@
 ghost use Rattle.std.specs.Prelude.{ℕ, min, ◌≤◌, ◌≡◌, List, length};
 ghost use Rattle.rules.specs.declared.Device.{Device};
 ghost use Rattle.rules.specs.declared.Finding.TheVariants.{Fine};
-ghost use Rattle.rules.specs.Device.{device_of};
+ghost use Rattle.rules.specs.Device.{khz50};
 ghost use Rattle.rules.specs.Fits.{Fits};
 ghost use Rattle.rules.specs.Grounds.{grounds1to5};
 ghost use Rattle.chains.specs.Last.{last_index};
@@ -17,8 +17,7 @@ ghost use Rattle.exclusion.specs.Claims.{TrialClaims};
 
 use copies::COPY_MAX;
 use plan::Chain;
-use ranges::BLOCKS;
-use rules::{CAPACITY, Device, Verdict};
+use rules::{Device, Verdict};
 
 // The verdict of a trial, and the length of the copy.
 #[derive(Drop)]
@@ -35,8 +34,8 @@ fn try_copy(
     last: u16,
     end: usize,
     np: usize,
-    reach: &mut [u16; CAPACITY],
-    hot: &mut [u8; BLOCKS],
+    reach: &mut [u16; 4096],
+    hot: &mut [u8; 256],
     pil: &mut [u16; 128],
     rec: &mut [u16; 128],
     copy: &mut [u8],
@@ -44,7 +43,7 @@ fn try_copy(
     requires { Fits d × (grounds1to5 d plan.now ≡ Fine) × Noted d plan.now np reach.old hot.old pil.old rec.old × (end ≡ last_index plan.now) × (copy_max ≤ length copy.old) }
     ensures { (result.verdict ≡ trial_verdict d plan.now first last) × CopiedIf result.verdict result.length d plan.now first last copy.new }
 {
-    let mut m = [0u16; CAPACITY];
+    let mut m = [0u16; 4096];
     let length = copies::extend(plan, end, first, last, copy);
     let verdict = verdicts::study_from(
         d,
@@ -65,8 +64,8 @@ pub fn try_range(d: Device, plan: &[u8], first: u16, last: u16, copy: &mut [u8])
     requires { Fits d × (copy_max ≤ length copy.old) }
     ensures { (result.verdict ≡ trial_verdict d plan.now first last) × CopiedIf result.verdict result.length d plan.now first last copy.new }
 {
-    let mut reach = [0u16; CAPACITY];
-    let mut hot = [0u8; BLOCKS];
+    let mut reach = [0u16; 4096];
+    let mut hot = [0u8; 256];
     let mut pil = [0u16; 128];
     let mut rec = [0u16; 128];
     match plan::walk_chain(d, plan, 0, 0, &mut reach, &mut hot, &mut pil, &mut rec) {
@@ -83,10 +82,10 @@ pub fn try_range(d: Device, plan: &[u8], first: u16, last: u16, copy: &mut [u8])
 // What the plan's verdict would be if first to last were excluded too: the refusal by 1 to 5 of the plan itself, else the verdict on the
 // copy.
 pub fn try_exclusion(plan: &[u8], first: u16, last: u16) -> Verdict
-    ensures { result ≡ trial_verdict (device_of plan.now) plan.now first last }
+    ensures { result ≡ trial_verdict khz50 plan.now first last }
 {
     let mut copy = [0u8; COPY_MAX];
-    let trial = try_range(rules::device_of(plan), plan, first, last, &mut copy);
+    let trial = try_range(rules::khz50_device(), plan, first, last, &mut copy);
     trial.verdict
 }
 
@@ -102,7 +101,7 @@ fn held(x: u32) -> u16
 
 // The same for numbers of 32 bits: with one that no record can hold, ground 4 at the new record.
 pub fn try_numbers(plan: &[u8], first: u32, last: u32) -> Verdict
-    ensures { result ≡ trial_of_numbers (device_of plan.now) plan.now first last }
+    ensures { result ≡ trial_of_numbers khz50 plan.now first last }
 {
     try_exclusion(plan, held(first), held(last))
 }

@@ -11,7 +11,6 @@ use Rattle.rules.specs.declared.Device.{Device}
 use Rattle.rules.specs.declared.Finding.TheVariants.{Fine}
 use Rattle.rules.specs.declared.Role.TheVariants.{Scattered, Data}
 use Rattle.rules.specs.Device.{phases}
-use Rattle.rules.specs.Fits.{Fits}
 use Rattle.rules.specs.Plan.{Plan, plan_of}
 use Rattle.rules.specs.Bands.{excluded, active}
 use Rattle.rules.specs.Roles.{in_plc, continuous, scattered_at, role, ranked, first_role}
@@ -71,6 +70,6 @@ module _ (d : Device) (p : Plan) where
   }
 
 -- each subcarrier is scattered at one phase
-pub counted : (d : Device) (s : List ℕ) → Fits d → d.depth_max ≤ phases → grounds1to15 d s ≡ Fine → Counts (frame_of d (plan_of s))
+pub counted : (d : Device) (s : List ℕ) → d.depth_max ≤ phases → grounds1to15 d s ≡ Fine → Counts (frame_of d (plan_of s))
 unfolding frame_of
-counted d s fits h fine = counts (frame_of d (plan_of s)) (sound d s h fine) (by_rank d (plan_of s)) (λ k l r. scattered_once d (plan_of s) fits k)
+counted d s h fine = counts (frame_of d (plan_of s)) (sound d s h fine) (by_rank d (plan_of s)) (λ k l r. scattered_once d (plan_of s) k)

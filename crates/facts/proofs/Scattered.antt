@@ -5,15 +5,13 @@ use native.Mathlib.Nat.{add_comm, add_assoc}
 use native.Mathlib.Omega.{arith}
 use lib.Dec.{eqb}
 use Rattle.counting.specs.Search.{bit, sum, count}
+use Rattle.counting.proofs.Bools.{eqb_sym}
 use Rattle.counting.proofs.Sums.{sum_cong, sum_blocks, count_eq}
 use Rattle.counting.proofs.Orders.{sum_turn}
 use Rattle.rules.specs.declared.Device.{Device}
 use Rattle.rules.specs.Device.{phases}
 use Rattle.rules.specs.Plan.{Plan}
-use Rattle.rules.specs.Fits.{Fits}
-use Rattle.rules.specs.Roles.{pattern_start, scattered_at}
-use Rattle.pattern.specs.Until.{phase_of}
-use Rattle.pattern.proofs.Once.{once, phase_below}
+use Rattle.rules.specs.Roles.{scattered_at}
 
 -- of 128 successive numbers one has the remainder r
 residue_once : (a r : ℕ) → r < phases → sum (λ i. bit (eqb ((a + i) % phases) r)) phases ≡ 1
@@ -23,19 +21,17 @@ residue_once a r h =
 
 module _ (d : Device) (p : Plan) where
   -- each subcarrier is scattered at one phase
-  pub scattered_once : Fits d → (k : ℕ) → count (λ j. scattered_at d p j k) phases ≡ 1
+  pub scattered_once : (k : ℕ) → count (λ j. scattered_at d p j k) phases ≡ 1
   unfolding count scattered_at
-  scattered_once fits k =
-      let base : ℕ = p.plc + d.plc_width in
-      let q : ℕ = phase_of d.scatter_step base k in
-      sum_cong (λ j. bit (scattered_at d p j k)) (λ j. bit (eqb j q)) phases (λ j l. ap bit (once d.scatter_step base k j fits.step l))
-      ∙ count_eq phases q (phase_below d.scatter_step base k fits.step)
+  scattered_once k =
+      sum_cong (λ j. bit (eqb (k % phases) ((p.plc + d.plc_width + j) % phases))) (λ j. bit (eqb ((p.plc + d.plc_width + j) % phases) (k % phases))) phases (λ j l. ap bit (eqb_sym (k % phases) ((p.plc + d.plc_width + j) % phases)))
+      ∙ residue_once (p.plc + d.plc_width) (k % phases) (omega arith)
 
   -- each phase scatters q of the q times 128 subcarriers from a on
   pub scattered_turns : (q j a : ℕ) → count (λ i. scattered_at d p j (a + i)) (q * phases) ≡ q
   unfolding count scattered_at
   scattered_turns q j a =
-      let r : ℕ = (p.plc + d.plc_width + pattern_start d.scatter_step j) % phases in
+      let r : ℕ = (p.plc + d.plc_width + j) % phases in
       sum_blocks (λ i. bit (eqb ((a + i) % phases) r)) phases 1 q
       (λ b l. sum_cong (λ i. bit (eqb ((a + (b * phases + i)) % phases) r)) (λ i. bit (eqb ((a + b * phases + i) % phases) r)) phases
       (λ i h. ap (λ (x : ℕ). bit (eqb (x % phases) r)) (sym (add_assoc a (b * phases) i)))

@@ -4,7 +4,7 @@
 // difference, `differs ..`; for a refused plan plancheck's line. Every load is 14. Where the first 65,536 bytes of the plan cannot be read, or
 // the line cannot be written, standard error is told. A longer input than any plan is read on, up to 64 MiB, so that its writer can finish.
 ghost use Rattle.std.specs.Prelude.{◌≡◌};
-ghost use Rattle.rules.specs.Device.{device_of};
+ghost use Rattle.rules.specs.Device.{khz50};
 ghost use Rattle.rules.specs.Plan.{plan_of};
 ghost use Rattle.rules.specs.Grounds.{verdict};
 ghost use Rattle.rules.specs.Frame.{frame_of};
@@ -90,7 +90,7 @@ fn new_pair(plan: &[u8]) -> Pair {
 
 // J under an accepted plan, the turns of the commutator in a symbol; 0 under another.
 fn turns(plan: &[u8]) -> usize
-    ensures { result ≡ needed (J (frame_of khz50 (plan_of plan.now))) (verdict (device_of plan.now) plan.now) }
+    ensures { result ≡ needed (J (frame_of khz50 (plan_of plan.now))) (verdict khz50 plan.now) }
 {
     match judge::judge(plan) {
         Verdict::Accepted(n) => figure::ceiling(n as usize, records::number_at(plan, 6)),

@@ -2,19 +2,19 @@
 // the literal store, whose delay lines the commutator goes round cell by cell (crate commutator). The entries read the plan bytes anew and ask
 // nothing of their caller; what they refuse, they leave as it was. All else is shared with the first emitter.
 ghost use Rattle.std.specs.Prelude.{◌≡◌};
-ghost use Rattle.rules.specs.Device.{device_of};
+ghost use Rattle.rules.specs.Device.{khz50};
 ghost use Rattle.rules.specs.Steps.{starts, leaves};
 ghost use Rattle.figure.specs.Steps.{figure_start_step, figure_send_step, figure_emit_step, figure_flush_step};
 ghost use Rattle.sending.specs.Sent.{given_by, at, giving};
 
-use rules::{CAPACITY, EmitterState, SendAnswer, StartAnswer, Verdict};
+use rules::{EmitterState, SendAnswer, StartAnswer, Verdict};
 
 // A fresh second emitter at a phase: the lines of the lent literal store filled.
 pub fn fresh_emitter(plan: &[u8], phase: u32, store: &mut [u16]) -> StartAnswer
-    ensures { starts result store.new ≡ figure_start_step (device_of plan.now) plan.now phase store.old }
+    ensures { starts result store.new ≡ figure_start_step khz50 plan.now phase store.old }
 {
-    let d = rules::device_of(plan);
-    let mut kc = [0u16; CAPACITY];
+    let d = rules::khz50_device();
+    let mut kc = [0u16; 4096];
     match startgrounds::admit_emitter(d, plan, phase, store.len(), &mut kc, true) {
         Verdict::Refused(g, place) => StartAnswer::Refused(g, place),
         Verdict::Accepted(n) => {
@@ -36,12 +36,12 @@ fn send(
     input: &[u16],
     symbol: &mut [u16],
 ) -> SendAnswer
-    ensures { leaves result store.new symbol.new ≡ figure_send_step (device_of plan.now) plan.now (at state store.old) (giving (given_by flushing input.now) profile.now symbol.old) }
+    ensures { leaves result store.new symbol.new ≡ figure_send_step khz50 plan.now (at state store.old) (giving (given_by flushing input.now) profile.now symbol.old) }
 {
-    let d = rules::device_of(plan);
-    let mut marks = [0u16; CAPACITY];
-    let mut car = [0u16; CAPACITY];
-    let mut x = [0u16; CAPACITY];
+    let d = rules::khz50_device();
+    let mut marks = [0u16; 4096];
+    let mut car = [0u16; 4096];
+    let mut x = [0u16; 4096];
     match sendgrounds::admit(
         d,
         plan,
@@ -77,14 +77,14 @@ pub fn emit(
     input: &[u16],
     symbol: &mut [u16],
 ) -> SendAnswer
-    ensures { leaves result store.new symbol.new ≡ figure_emit_step (device_of plan.now) plan.now profile.now state store.old input.now symbol.old }
+    ensures { leaves result store.new symbol.new ≡ figure_emit_step khz50 plan.now profile.now state store.old input.now symbol.old }
 {
     send(plan, profile, false, state, store, input, symbol)
 }
 
 // A flush step: the same with filler in every data cell, and without a profile.
 pub fn flush(plan: &[u8], state: EmitterState, store: &mut [u16], symbol: &mut [u16]) -> SendAnswer
-    ensures { leaves result store.new symbol.new ≡ figure_flush_step (device_of plan.now) plan.now state store.old symbol.old }
+    ensures { leaves result store.new symbol.new ≡ figure_flush_step khz50 plan.now state store.old symbol.old }
 {
     let no_profile = [0u8; 1];
     let no_data = [0u16; 1];

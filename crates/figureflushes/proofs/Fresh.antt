@@ -14,7 +14,6 @@ use borrow.Author.Tests.{lt-ltb, le-ltb, eq-eqb, ne_eqb}
 use Rattle.counting.specs.Search.{pick}
 use Rattle.counting.proofs.Lists.{get_or-sets_after, get_or-sets_0}
 use Rattle.rules.specs.declared.Device.{Device}
-use Rattle.rules.specs.Device.{phases}
 use Rattle.rules.specs.Plan.{plan_of}
 use Rattle.rules.specs.Frame.{Frame, frame_of, cells, spot, phase_back, held, placeholder, filler}
 use Rattle.spots.specs.Tied.{Turning}
@@ -39,26 +38,26 @@ fresh_dummy : (F : Frame) (j r i q : ℕ) → q < J F → cells F ≤ q * F.dept
 unfolding fresh_place
 fresh_dummy F j r i q hq h = rw (line_of (J F) i q hq, le-ltb (q * F.depth + r) (cells F) h) refl
 
-module _ (F : Frame) (base up : ℕ) (turning : Turning F base up) (j : ℕ) (low : j < phases) (fits : F.depth ≤ F.phases) (pos : 0 < F.depth) where
+module _ (F : Frame) (base : ℕ) (turning : Turning F base) (j : ℕ) (fits : F.depth ≤ F.phases) (pos : 0 < F.depth) where
   -- that of a cell is sent i symbols on
   fresh_cell_lem : (r i q : ℕ) → r < F.depth → i < r → q < J F → q * F.depth + r < cells F
-      → fresh_place F j r (i * J F + q) ≡ pick (eqb i (symbols_until up base j (spot F (q * F.depth + r)))) placeholder filler
+      → fresh_place F j r (i * J F + q) ≡ pick (eqb i (symbols_until (base + j) (spot F (q * F.depth + r)))) placeholder filler
   unfolding fresh_place
   fresh_cell_lem r i q hr hi hq h =
       let p : ℕ = q * F.depth + r in
       let line : p % F.depth ≡ r = line_of F.depth q r hr in
-      let stands : held F (phase_back F j (r - i)) p ≡ eqb i (symbols_until up base j (spot F p)) =
-      rw line at (held_until F base up turning j low fits pos p i (omega (arith, line))) in
+      let stands : held F (phase_back F j (r - i)) p ≡ eqb i (symbols_until (base + j) (spot F p)) =
+      rw line at (held_until F base turning j fits pos p i (omega (arith, line))) in
       rw (line_of (J F) i q hq, turn_of (J F) i q hq, lt-ltb p (cells F) h)
       (flush_cell F (phase_back F j (r - i)) p h ∙ ap (λ (b : Bool). pick b placeholder filler) stands)
 
 -- ---- the store that is made of t, which holds filler in all places of the lines; kc are the subcarriers of the cells
 
-module _ (F : Frame) (base up : ℕ) (turning : Turning F base up) (j : ℕ) (low : j < phases) (fits : F.depth ≤ F.phases) (pos : 0 < F.depth)
+module _ (F : Frame) (base : ℕ) (turning : Turning F base) (j : ℕ) (fits : F.depth ≤ F.phases) (pos : 0 < F.depth)
     (kc t : List ℕ) (en : length kc ≡ cells F) (spots : (p : ℕ) → p < length kc → get_or kc p 0 ≡ spot F p)
     (long : line_begins (J F) F.depth ≤ length t) (full : (k : ℕ) → k < line_begins (J F) F.depth → get_or t k 0 ≡ filler) where
   made : List ℕ
-  made = with_placeholders F.depth (J F) (symbols_until up base j) kc t (cells F)
+  made = with_placeholders F.depth (J F) (base + j) kc t (cells F)
 
   all : cells F ≤ J F * F.depth
   all = enough (cells F) F.depth pos
@@ -68,22 +67,22 @@ module _ (F : Frame) (base up : ℕ) (turning : Turning F base up) (j : ℕ) (lo
   unfolding made
   made_place_lem r i q hr hi hq =
       let p : ℕ = q * F.depth + r in
-      let u : ℕ = symbols_until up base j (spot F p) in
+      let u : ℕ = symbols_until (base + j) (spot F p) in
       let k : ℕ = line_begins (J F) r + (i * J F + q) in
       let stays : get_or t k 0 ≡ filler = full k (omega (arith, begins_grow (J F) r F.depth hr, below_times i q (J F) r hi hq)) in
       by_cases (dec_lt p (cells F))
       (λ c.
-      let is : symbols_until up base j (get_or kc p 0) ≡ u = ap (symbols_until up base j) (spots p (omega (arith, c, en))) in
-      let fresh : fresh_place F j r (i * J F + q) ≡ pick (eqb i u) placeholder filler = fresh_cell_lem F base up turning j low fits pos r i q hr hi hq c in
+      let is : symbols_until (base + j) (get_or kc p 0) ≡ u = ap (symbols_until (base + j)) (spots p (omega (arith, c, en))) in
+      let fresh : fresh_place F j r (i * J F + q) ≡ pick (eqb i u) placeholder filler = fresh_cell_lem F base turning j fits pos r i q hr hi hq c in
       by_cases (ℕ_discrete i u)
       (λ e.
-      placed F.depth (J F) (symbols_until up base j) kc t (cells F) pos all long r i q hr hi hq c (e ∙ sym is)
+      placed F.depth (J F) (base + j) kc t (cells F) pos all long r i q hr hi hq c (e ∙ sym is)
       ∙ sym (fresh ∙ rw (eq-eqb i u e) refl))
       (λ e.
-      not_placed F.depth (J F) (symbols_until up base j) kc t (cells F) pos all long r i q hr hi hq (λ l z. e (z ∙ is))
+      not_placed F.depth (J F) (base + j) kc t (cells F) pos all long r i q hr hi hq (λ l z. e (z ∙ is))
       ∙ stays ∙ sym (fresh ∙ rw (ne_eqb i u e) refl)))
       (λ c.
-      not_placed F.depth (J F) (symbols_until up base j) kc t (cells F) pos all long r i q hr hi hq (λ l z. c l)
+      not_placed F.depth (J F) (base + j) kc t (cells F) pos all long r i q hr hi hq (λ l z. c l)
       ∙ stays ∙ sym (fresh_dummy F j r i q hq (omega arith)))
 
   -- place x of line r
@@ -96,14 +95,14 @@ module _ (F : Frame) (base up : ℕ) (turning : Turning F base up) (j : ℕ) (lo
   made_is : (s : List ℕ) → length t ≡ length s → ((k : ℕ) → line_begins (J F) F.depth ≤ k → get_or t k 0 ≡ get_or s k 0) → made ≡ fresh_literal F j s
   unfolding made literal_places
   made_is s size rest =
-      ext_get_or 0 made (fresh_literal F j s) (length_all_with F.depth (J F) (symbols_until up base j) kc t (cells F) ∙ size ∙ sym (length_fresh F j s))
+      ext_get_or 0 made (fresh_literal F j s) (length_all_with F.depth (J F) (base + j) kc t (cells F) ∙ size ∙ sym (length_fresh F j s))
       (λ k l.
       by_cases (dec_lt k (line_begins (J F) F.depth))
       (λ c.
       let w : Within (λ r. r * J F) F.depth k = in_line (J F) F.depth k c in
       rw (begins_at (J F) F.depth k w) at (made_at w.cell w.nth w.below w.inside ∙ sym (fresh_at F j s (omega arith) w.cell w.nth w.below w.inside)))
       (λ c.
-      past_placed F.depth (J F) (symbols_until up base j) kc t (cells F) pos all long k (omega arith)
+      past_placed F.depth (J F) (base + j) kc t (cells F) pos all long k (omega arith)
       ∙ rest k (omega arith) ∙ sym (fresh_past F j s k (omega arith))))
 
 -- ---- filler stored in the first n places
@@ -128,14 +127,14 @@ module _ (d : Device) (s kc : List ℕ) (w : Spotted d s kc) (m : ℕ) (em : m �
   unfolding frame_of literal_places
   places_of = λ k. line_begins (ceiling (w.all k) (em k)) (em k)
 
-  pub fresh_of : (j l places : ℕ) → j < phases → l ≡ (plan_of s).plc → places ≡ line_begins (ceiling (length kc) m) m → (store t y : List ℕ)
+  pub fresh_of : (j l places : ℕ) → l ≡ (plan_of s).plc → places ≡ line_begins (ceiling (length kc) m) m → (store t y : List ℕ)
       → literal_places (frame_of d (plan_of s)) ≤ length store → t ≡ sets store 0 (replicate places filler)
-      → y ≡ with_placeholders m (ceiling (length kc) m) (symbols_until d.scatter_step (l + d.plc_width) j) kc t (length kc) → y ≡ fresh_literal (frame_of d (plan_of s)) j store
+      → y ≡ with_placeholders m (ceiling (length kc) m) (l + d.plc_width + j) kc t (length kc) → y ≡ fresh_literal (frame_of d (plan_of s)) j store
   unfolding frame_of literal_places made
-  fresh_of j l places low el ep store t y long et ey =
+  fresh_of j l places el ep store t y long et ey =
       let F : Frame = frame_of d (plan_of s) in
       let need : places ≡ line_begins (J F) F.depth = ep ∙ places_of in
       let size : length t ≡ length store = filled_length store t places et in
-      ey ∙ (λ k. with_placeholders (em k) (ceiling (w.all k) (em k)) (symbols_until d.scatter_step (el k + d.plc_width) j) kc t (w.all k))
-      ∙ made_is F _ _ (turning_of d (plan_of s) w.fits) j low w.shallow w.deep kc t w.all w.spots (omega arith) (λ k h. filled_in store t places et (omega arith) k (omega arith))
+      ey ∙ (λ k. with_placeholders (em k) (ceiling (w.all k) (em k)) (el k + d.plc_width + j) kc t (w.all k))
+      ∙ made_is F _ (turning_of d (plan_of s)) j w.shallow w.deep kc t w.all w.spots (omega arith) (λ k h. filled_in store t places et (omega arith) k (omega arith))
       store size (λ k h. filled_past store t places et k (omega arith))

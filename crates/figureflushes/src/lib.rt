@@ -2,12 +2,11 @@
 // step. The lines stand side by side, line r with r * J places, J for each symbol of its delay: place i * J + q is that of cell q * M + r, sent i
 // symbols on. So it is a placeholder exactly if the pattern then stands on the subcarrier of the cell, and else filler, as the places of dummies
 // are. Crate figure says what a fresh literal store holds, specs/Placeholders which places become placeholders.
-ghost use Rattle.std.specs.Prelude.{◌≡◌, ◌⊎◌, ◌+◌, ◌*◌, ◌≤◌, ◌<◌, length};
+ghost use Rattle.std.specs.Prelude.{◌≡◌, ◌+◌, ◌*◌, ◌≤◌, ◌<◌, length};
 ghost use Rattle.rules.specs.Device.{phases};
 ghost use Rattle.rules.specs.Fits.{capacity};
 ghost use Rattle.rules.specs.Plan.{plan_of};
 ghost use Rattle.rules.specs.Frame.{frame_of};
-ghost use Rattle.pattern.specs.Until.{symbols_until};
 ghost use Rattle.flushes.specs.Spotted.{Spotted};
 ghost use Rattle.figure.specs.Figure as figure;
 ghost use Rattle.figure.specs.Steps.{literal_places, fresh_literal};
@@ -29,11 +28,11 @@ fn put_placeholder(store: &mut [u16], begins: usize, turn: usize, j: usize, dela
     }
 }
 
-// The placeholders among the places of the cells, whose subcarriers are kc: of each cell at most one. The next symbol is at this phase; at
-// phase 0 the pattern stands on the subcarriers that are `base` modulo 128, and from phase to phase it moves up by `step`.
-fn put_placeholders(m: usize, step: usize, base: usize, phase: usize, kc: &[u16], store: &mut [u16])
-    requires { (0 < m) × (m ≤ capacity) × ((step ≡ 1) ⊎ (step ≡ 2)) × (phase < phases) × (length kc.now ≤ capacity) × (figure.line_begins (figure.ceiling (length kc.now) m) m ≤ length store.old) }
-    ensures { store.new ≡ with_placeholders m (figure.ceiling (length kc.now) m) (symbols_until step base phase) kc.now store.old (length kc.now) }
+// The placeholders among the places of the cells, whose subcarriers are kc: of each cell at most one. Now the pattern stands on the subcarriers
+// that are `base` modulo 128.
+fn put_placeholders(m: usize, base: usize, kc: &[u16], store: &mut [u16])
+    requires { (0 < m) × (m ≤ capacity) × (length kc.now ≤ capacity) × (figure.line_begins (figure.ceiling (length kc.now) m) m ≤ length store.old) }
+    ensures { store.new ≡ with_placeholders m (figure.ceiling (length kc.now) m) base kc.now store.old (length kc.now) }
 {
     let j = figure::ceiling(kc.len(), m);
     let mut p = 0;
@@ -41,7 +40,7 @@ fn put_placeholders(m: usize, step: usize, base: usize, phase: usize, kc: &[u16]
     let mut line = 0;
     let mut turn = 0;
     while p < kc.len() {
-        let i = pattern::symbols_until(step, base, phase, kc[p]);
+        let i = pattern::symbols_until(base, kc[p]);
         put_placeholder(store, begins, turn, j, line, i);
         p += 1;
         if line + 1 == m {
@@ -63,5 +62,5 @@ pub fn fresh_lines(d: Device, plan: &[u8], phase: usize, kc: &[u16], store: &mut
     let l = records::number_at(plan, 4);
     let m = records::number_at(plan, 6);
     flushes::put_filler(store, figure::literal_places(m, kc.len()));
-    put_placeholders(m, d.scatter_step, l + d.plc_width, phase, kc, store);
+    put_placeholders(m, l + d.plc_width + phase, kc, store);
 }

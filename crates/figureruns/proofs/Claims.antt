@@ -1,4 +1,4 @@
--- From a fresh start the second emitter does what the first does, under every plan that its device accepts. Assumes nothing.
+-- From a fresh start the second emitter does what the first does, under every plan that the 50 kHz device accepts. Assumes nothing.
 use Prim.Native.Nat.{ℕ, ◌≤◌, ◌<◌}
 use mathlib.Core.Path.{◌≡◌, refl, sym, ap, subst₂, ◌∙◌}
 use mathlib.Core.Bool.{true, false, false≢true}
@@ -12,16 +12,16 @@ use Rattle.rules.specs.declared.Finding.{Finding}
 use Rattle.rules.specs.declared.Finding.TheVariants.{Fine, Ground}
 use Rattle.rules.specs.declared.Verdict.TheVariants.{Accepted}
 use Rattle.rules.specs.declared.StartAnswer.TheVariants as a-start
-use Rattle.rules.specs.Device.{device_of, phases}
+use Rattle.rules.specs.Device.{khz50, phases}
 use Rattle.rules.specs.Plan.{plan_of}
 use Rattle.rules.specs.Grounds.{◌else◌, ground?, grounds1to15, verdict}
 use Rattle.rules.specs.Frame.{Frame, frame_of}
 use Rattle.rules.specs.Store.{emitter_places}
 use Rattle.rules.specs.Steps.{Emitter, Starting, starts, refused, short_store, ground16}
 use Rattle.rules.proofs.Findings.{both_fine, when_fine, by_finding}
-use Rattle.rules.proofs.Sizes.{plan_depth}
 use Rattle.frame.proofs.Cells.{Sound}
 use Rattle.facts.proofs.Framed.{sound}
+use Rattle.facts.proofs.Sizes.{khz50_roomy}
 use Rattle.verdicts.proofs.Verdicts.{no_ground}
 use Rattle.figure.specs.Steps.{literal_places, ground27, figure_start_grounds, fresh_literal, frame_start, frame_step, figure_send_step, figure_start_step}
 use Rattle.figure.proofs.Sizes.{lengths_add_up}
@@ -94,6 +94,6 @@ pub same_as_figure : (d : Device) (s : List ℕ) → d.depth_max ≤ phases → 
 same_as_figure d s h fine =
     subst₂ (SameEmitters (frame_of d (plan_of s))) (sym (frame_entries_lem d s fine)) (sym (figure_entries_lem d s fine)) (frame_same (frame_of d (plan_of s)) (sound d s h fine))
 
--- every plan that its device accepts
-pub accepted_same : (s : List ℕ) (n : ℕ) → verdict (device_of s) s ≡ Accepted n → SameAsFigure (device_of s) s
-accepted_same s n e = same_as_figure (device_of s) s (plan_depth s) (no_ground (device_of s) s n (sym e))
+-- every plan that the 50 kHz device accepts
+pub accepted_same : (s : List ℕ) (n : ℕ) → verdict khz50 s ≡ Accepted n → SameAsFigure khz50 s
+accepted_same s n e = same_as_figure khz50 s khz50_roomy.depth (no_ground khz50 s n (sym e))

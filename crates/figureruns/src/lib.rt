@@ -1,13 +1,13 @@
-// The second emitter, which takes the figure of document 003 literally, sends what the first sends (document 02, request 09): for every plan that
-// its device accepts, every phase and every list of steps from fresh starts, refused ones included (specs/Same). The function does nothing;
-// its contract is the theorem.
+// The second emitter, which takes the figure of document 003 literally, sends what the first sends (document 02, request 09): for every accepted
+// plan, every phase and every list of steps from fresh starts, refused ones included (specs/Same). The function does nothing; its contract
+// is the theorem.
 ghost use Rattle.std.specs.Prelude.{ℕ, ◌≡◌, List};
 ghost use Rattle.rules.specs.declared.Verdict.TheVariants.{Accepted};
-ghost use Rattle.rules.specs.Device.{device_of};
+ghost use Rattle.rules.specs.Device.{khz50};
 ghost use Rattle.rules.specs.Grounds.{verdict};
 ghost use Rattle.figureruns.specs.Same.{SameAsFigure};
 
-// Every plan that its device accepts: from a fresh start each step of the second emitter has the result of the first's.
+// Every accepted plan: from a fresh start each step of the second emitter has the result of the first's.
 pub fn same_as_figure()
-    ensures { (s : List ℕ) (n : ℕ) → verdict (device_of s) s ≡ Accepted n → SameAsFigure (device_of s) s }
+    ensures { (s : List ℕ) (n : ℕ) → verdict khz50 s ≡ Accepted n → SameAsFigure khz50 s }
 {}

@@ -1,7 +1,7 @@
 // Steps of the second emitter that are given numbers, over the first cells of what they are lent, as crate trials has them of the first. With these a
 // program tries literal stores and symbols that are too short.
 ghost use Rattle.std.specs.Prelude.{◌≡◌};
-ghost use Rattle.rules.specs.Device.{device_of};
+ghost use Rattle.rules.specs.Device.{khz50};
 ghost use Rattle.rules.specs.Plan.{plan_of};
 ghost use Rattle.rules.specs.Grounds.{verdict};
 ghost use Rattle.rules.specs.Frame.{frame_of};
@@ -15,7 +15,7 @@ use trials::Sending;
 
 // The places that a literal store needs under an accepted plan, 0 under another.
 pub fn literal_need(plan: &[u8]) -> usize
-    ensures { result ≡ needed (literal_places (frame_of khz50 (plan_of plan.now))) (verdict (device_of plan.now) plan.now) }
+    ensures { result ≡ needed (literal_places (frame_of khz50 (plan_of plan.now))) (verdict khz50 plan.now) }
 {
     match judge::judge(plan) {
         Verdict::Accepted(n) => figure::literal_places(records::number_at(plan, 6), n as usize),

@@ -4,7 +4,6 @@ ghost use Rattle.std.specs.Prelude.{◌≡◌, ◌+◌, ◌≤◌, length, get_o
 ghost use Rattle.std.proofs.lemmas.List.Edits.{sets};
 ghost use Rattle.counting.specs.Search.{count, tabulate, is_zero};
 ghost use Rattle.fill.specs.Flags.{all_data, data_cell, filler_cell};
-ghost use Rattle.rules.specs.Fits.{capacity};
 
 // The mark of a scattered placeholder.
 const PLACEHOLDER: u16 = 0x8000;
@@ -75,7 +74,7 @@ fn fill_cells(cells: &mut [u16], flag: &[u8], ds: &[u16], p: usize, k: usize, d:
 
 // The input symbol of the data ds.
 pub fn fill_data(cells: &mut [u16], flag: &[u8], ds: &[u16])
-    requires { (length cells.old ≤ capacity) × (length cells.old ≤ length flag.now) × (count (is_zero flag.now) (length cells.old) ≤ length ds.now) }
+    requires { (length cells.old ≤ 4096) × (length cells.old ≤ length flag.now) × (count (is_zero flag.now) (length cells.old) ≤ length ds.now) }
     ensures { cells.new ≡ tabulate (data_cell flag.now ds.now) (length cells.old) }
 {
     let n = cells.len();

@@ -3,7 +3,7 @@
 // entries over two-byte cells.
 ghost use Rattle.std.specs.Prelude.{◌≡◌, ℕ, ◌+◌, ◌*◌, ◌≤◌, ◌<◌, length, get_or};
 ghost use Rattle.rules.specs.declared.Finding.TheVariants.{Fine};
-ghost use Rattle.rules.specs.Device.{device_of, phases};
+ghost use Rattle.rules.specs.Device.{khz50, phases};
 ghost use Rattle.rules.specs.Fits.{Fits, capacity};
 ghost use Rattle.rules.specs.Plan.{plan_of};
 ghost use Rattle.rules.specs.Frame.{frame_of};
@@ -15,7 +15,7 @@ ghost use Rattle.filling.specs.Measured as measured;
 ghost use Rattle.filling.specs.Measured.{MeasuredIf, put_back};
 
 use counting::Found;
-use rules::{CAPACITY, CountAnswer, Device, Finding, Verdict};
+use rules::{CountAnswer, Device, Finding, Verdict};
 
 // Phases are 0 to 127.
 const PHASES: usize = 128;
@@ -24,7 +24,7 @@ const PHASES: usize = 128;
 fn measure_at(
     d: Device,
     plan: &[u8],
-    marks: &[u16; CAPACITY],
+    marks: &[u16; 4096],
     n: usize,
     profile: &[u8],
     j: usize,
@@ -38,9 +38,9 @@ fn measure_at(
     ensures made { MeasuredIf result (frame_of d (plan_of plan.now)) profile.now j number bytes start loads.new }
 {
     let m = records::number_at(plan, 6);
-    let mut car = [0u16; CAPACITY];
-    let mut kc = [0u16; CAPACITY];
-    let mut flag = [0u8; CAPACITY];
+    let mut car = [0u16; 4096];
+    let mut kc = [0u16; 4096];
+    let mut flag = [0u8; 4096];
     let nd = spots::prepare(d, plan, marks, m, j, &mut car, &mut kc[..n], &mut flag[..n]);
     if number != nd {
         return CountAnswer::Refused(18, 0);
@@ -68,7 +68,7 @@ pub fn measure(
     ensures answer { result ≡ measured.measure d plan.now profile.now phase number bytes start }
     ensures made { MeasuredIf result (frame_of d (plan_of plan.now)) profile.now phase number bytes start loads.new }
 {
-    let mut marks = [0u16; CAPACITY];
+    let mut marks = [0u16; 4096];
     match verdicts::study(d, plan, &mut marks) {
         Verdict::Refused(g, place) => CountAnswer::Refused(g, place),
         Verdict::Accepted(n) => {
@@ -121,11 +121,11 @@ pub fn fill_symbol(
     start: usize,
     input: &mut [u16],
 ) -> CountAnswer
-    ensures { fills result input.new ≡ fill_step (device_of plan.now) plan.now profile.now phase stream.now start input.old }
+    ensures { fills result input.new ≡ fill_step khz50 plan.now profile.now phase stream.now start input.old }
 {
-    let d = rules::device_of(plan);
+    let d = rules::khz50_device();
     let n = input.len();
-    let mut loads = [0u16; CAPACITY];
+    let mut loads = [0u16; 4096];
     match measure(d, plan, profile, phase, n, stream.len(), start, &mut loads) {
         CountAnswer::Refused(g, place) => CountAnswer::Refused(g, place),
         CountAnswer::Count(need) => {
@@ -151,11 +151,11 @@ pub fn unfill_symbol(
     start: usize,
     stream: &mut [u8],
 ) -> CountAnswer
-    ensures { fills result stream.new ≡ unfill_step (device_of plan.now) plan.now profile.now phase input.now start stream.old }
+    ensures { fills result stream.new ≡ unfill_step khz50 plan.now profile.now phase input.now start stream.old }
 {
-    let d = rules::device_of(plan);
+    let d = rules::khz50_device();
     let n = input.len();
-    let mut loads = [0u16; CAPACITY];
+    let mut loads = [0u16; 4096];
     match measure(d, plan, profile, phase, n, stream.len(), start, &mut loads) {
         CountAnswer::Refused(g, place) => CountAnswer::Refused(g, place),
         CountAnswer::Count(need) => { put_back(&loads[..n], input, need, start, stream) }

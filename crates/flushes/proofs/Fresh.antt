@@ -18,7 +18,6 @@ use Rattle.counting.proofs.Lists.{length_tabulate, get_d_tabulate, tabulate_cong
 use Rattle.rules.specs.declared.Device.{Device}
 use Rattle.rules.specs.Device.{phases}
 use Rattle.rules.specs.Plan.{plan_of}
-use Rattle.rules.specs.Roles.{pattern_start}
 use Rattle.rules.specs.Frame.{Frame, frame_of, cells, spot, delay, phase_back, held, is_data, data_count, data_list, input_cells, flush, placeholder, filler}
 use Rattle.rules.specs.Places.{emitter_delay, joined, places_before}
 use Rattle.rules.specs.Store.{emitter_places, receiver_places, fresh_places, fresh_store, filler_store}
@@ -28,7 +27,7 @@ use Rattle.spots.proofs.Plans.{turning_of}
 use Rattle.places.proofs.Kept.{start_grow, joined_length}
 use Rattle.places.proofs.Sizes.{emitter_places_are}
 use Rattle.pattern.specs.Until.{symbols_until}
-use Rattle.pattern.proofs.Once.{once_later}
+use Rattle.pattern.proofs.Once.{once}
 use Rattle.flushes.specs.Spotted.{Spotted}
 use Rattle.flushes.specs.Placeholders.{with_placeholder, with_placeholders}
 use Rattle.flushes.proofs.Putting.{length_with}
@@ -102,16 +101,16 @@ module _ (s : List ℕ) (at n i : ℕ) (long : at + n ≤ length s) (full : (k :
       (λ g. stays k (λ a b z. absurd (omega arith)) ∙ sym (get_or-sets_after s at (tabulate (made_place i) n) 0 k (omega (arith, length_tabulate (made_place i) n))))))
 
 -- the places of cell p, whose subcarrier is kc p
-made_places : ℕ → (ℕ → ℕ) → List ℕ → ℕ → List ℕ
-made_places m until kc p = tabulate (made_place (until (get_or kc p 0))) (emitter_delay m p)
+made_places : ℕ → ℕ → List ℕ → ℕ → List ℕ
+made_places m base kc p = tabulate (made_place (symbols_until base (get_or kc p 0))) (emitter_delay m p)
 
-module _ (m : ℕ) (until : ℕ → ℕ) (n : ℕ) (kc t : List ℕ) (long : places_before (emitter_delay m) n ≤ length t) (full : (k : ℕ) → k < places_before (emitter_delay m) n → get_or t k 0 ≡ filler) where
+module _ (m base n : ℕ) (kc t : List ℕ) (long : places_before (emitter_delay m) n ≤ length t) (full : (k : ℕ) → k < places_before (emitter_delay m) n → get_or t k 0 ≡ filler) where
   made : ℕ → List ℕ
-  made = made_places m until kc
+  made = made_places m base kc
 
   length_made : (p : ℕ) → length (joined made p) ≡ places_before (emitter_delay m) p
   unfolding made made_places
-  length_made p = joined_length made (emitter_delay m) p (λ q h. length_tabulate (made_place (until (get_or kc q 0))) (emitter_delay m q))
+  length_made p = joined_length made (emitter_delay m) p (λ q h. length_tabulate (made_place (symbols_until base (get_or kc q 0))) (emitter_delay m q))
 
   -- one more cell
   next_put : (p : ℕ) → sets (sets t 0 (joined made p)) (places_before (emitter_delay m) p) (made p) ≡ sets t 0 (joined made (suc p))
@@ -120,12 +119,12 @@ module _ (m : ℕ) (until : ℕ → ℕ) (n : ℕ) (kc t : List ℕ) (long : pla
       ap (λ (k : ℕ). sets (sets t 0 (joined made p)) k (made p)) (sym (zero-add (length (joined made p)) ∙ length_made p))
       ∙ sets-append t 0 (joined made p) (made p)
 
-  all_put : (p : ℕ) → p ≤ n → with_placeholders m until kc t p ≡ sets t 0 (joined made p)
+  all_put : (p : ℕ) → p ≤ n → with_placeholders m base kc t p ≡ sets t 0 (joined made p)
   unfolding with_placeholders made made_places
   all_put zero h = unfold joined in refl
   all_put (suc p) h =
       let at : ℕ = places_before (emitter_delay m) p in
-      let i : ℕ = until (get_or kc p 0) in
+      let i : ℕ = symbols_until base (get_or kc p 0) in
       let grow : at + emitter_delay m p ≤ places_before (emitter_delay m) n = start_grow (emitter_delay m) p n h in
       ap (with_placeholder at (emitter_delay m p) i) (all_put p (omega arith))
       ∙ cell_put (sets t 0 (joined made p)) at (emitter_delay m p) i (omega (arith, length-sets t 0 (joined made p)))
@@ -142,19 +141,22 @@ flush_cell F j p hp =
     (λ q. rw q (input_held F j flush p hp q))
     (λ q. rw q (input_data F j flush p hp q ∙ get_or-replicate (data_count F j) (count (is_data F j) p) filler 0 (count_lt (is_data F j) p (cells F) hp (ap not q))))
 
-module _ (F : Frame) (base up : ℕ) (t : Turning F base up) (j : ℕ) (low : j < phases) (fits : F.depth ≤ F.phases) (pos : 0 < F.depth) where
+module _ (F : Frame) (base : ℕ) (t : Turning F base) (j : ℕ) (fits : F.depth ≤ F.phases) (pos : 0 < F.depth) where
   -- place i of cell p is sent at phase j + i
-  pub held_until : (p i : ℕ) → i < delay F p → held F (phase_back F j (delay F p - i)) p ≡ eqb i (symbols_until up base j (spot F p))
+  pub held_until : (p i : ℕ) → i < delay F p → held F (phase_back F j (delay F p - i)) p ≡ eqb i (symbols_until (base + j) (spot F p))
   unfolding held
   held_until p i h =
       let d : delay F p < F.depth = mod-lt p pos in
       let e : j + (F.phases - (delay F p - i)) + delay F p ≡ j + i + F.phases = omega arith in
       ap (λ (x : ℕ). F.pattern x (spot F p)) (mod-add-mod (j + (F.phases - (delay F p - i))) F.phases (delay F p) ∙ ap (λ (x : ℕ). x % F.phases) e ∙ add-mod_right (j + i) F.phases)
       ∙ t.pattern ((j + i) % F.phases) (spot F p)
-      ∙ ap (λ (x : ℕ). eqb (spot F p % phases) ((base + pattern_start up ((j + i) % x)) % phases)) t.period
-      ∙ once_later up base j (spot F p) i t.step low (omega (arith, t.period))
+      ∙ ap (eqb (spot F p % phases)) (turn i)
+      ∙ once (base + j) (spot F p) i (omega (arith, t.period))
+    where
+      turn : (i : ℕ) → (base + (j + i) % F.phases) % phases ≡ (base + j + i) % phases
+      turn i = ap (λ (x : ℕ). (base + (j + i) % x) % phases) t.period ∙ omega arith
 
-  places_are : (p : ℕ) → p < cells F → fresh_places F j p ≡ tabulate (made_place (symbols_until up base j (spot F p))) (delay F p)
+  places_are : (p : ℕ) → p < cells F → fresh_places F j p ≡ tabulate (made_place (symbols_until (base + j) (spot F p))) (delay F p)
   unfolding fresh_places
   places_are p hp =
       tabulate_cong _ _ (delay F p)
@@ -167,26 +169,25 @@ joined_cong f g zero h = refl
 joined_cong f g (suc n) h = λ i. joined_cong f g n (λ p l. h p (omega arith)) i ++ h n (omega arith) i
 
 -- the store that is made of s: filler in all places of the cells, and then their placeholders; kc are their subcarriers
-fresh_is : (F : Frame) (base up : ℕ) → Turning F base up → (j : ℕ) → j < phases → F.depth ≤ F.phases → 0 < F.depth → (m from places : ℕ) (kc s t y : List ℕ)
-    → m ≡ F.depth → length kc ≡ cells F → from ≡ base → ((p : ℕ) → p < length kc → get_or kc p 0 ≡ spot F p)
+fresh_is : (F : Frame) (base : ℕ) → Turning F base → (j : ℕ) → F.depth ≤ F.phases → 0 < F.depth → (m from places : ℕ) (kc s t y : List ℕ)
+    → m ≡ F.depth → length kc ≡ cells F → from ≡ base + j → ((p : ℕ) → p < length kc → get_or kc p 0 ≡ spot F p)
     → places ≡ places_before (emitter_delay m) (length kc) → emitter_places F ≤ length s
-    → t ≡ sets s 0 (replicate places filler) → y ≡ with_placeholders m (symbols_until up from j) kc t (length kc) → y ≡ fresh_store F j s
+    → t ≡ sets s 0 (replicate places filler) → y ≡ with_placeholders m from kc t (length kc) → y ≡ fresh_store F j s
 unfolding fresh_store made_places made
-fresh_is F base up turning j low fits pos m from places kc s t y em en ef spots ep long et ey =
+fresh_is F base turning j fits pos m from places kc s t y em en ef spots ep long et ey =
     let n : ℕ = length kc in
-    let until : ℕ → ℕ = symbols_until up from j in
     let filled : List ℕ = replicate places filler in
     let need : places_before (emitter_delay m) n ≡ emitter_places F = emitter_places_are F m n em en in
     let size : length t ≡ length s = ap length et ∙ length-sets s 0 filled in
     let full : length filled ≡ places = length-replicate places filler in
-    let same : joined (made_places m until kc) n ≡ joined (fresh_places F j) (cells F) =
-    joined_cong _ (fresh_places F j) n (λ p h. rw (em, ef, spots p h) (sym (places_are F base up turning j low fits pos p (omega (arith, h, en))))) ∙ ap (joined (fresh_places F j)) en in
+    let same : joined (made_places m from kc) n ≡ joined (fresh_places F j) (cells F) =
+    joined_cong _ (fresh_places F j) n (λ p h. rw (em, ef, spots p h) (sym (places_are F base turning j fits pos p (omega (arith, h, en))))) ∙ ap (joined (fresh_places F j)) en in
     let long' : places_before (emitter_delay m) n ≤ length t = omega arith in
     let fill : (k : ℕ) → k < places_before (emitter_delay m) n → get_or t k 0 ≡ filler =
     λ k h. ap (λ (l : List ℕ). get_or l k 0) et ∙ get_or-sets_0 s filled 0 k (omega arith) (omega arith) ∙ get_or-replicate places k filler 0 (omega arith) in
-    ey ∙ all_put m until n kc t long' fill n (omega arith)
-    ∙ ap (λ (l : List ℕ). sets l 0 (joined (made_places m until kc) n)) et
-    ∙ sets_over s filled (joined (made_places m until kc) n) (full ∙ ep ∙ sym (length_made m until n kc t long' fill n)) (omega (arith, length_made m until n kc t long' fill n))
+    ey ∙ all_put m from n kc t long' fill n (omega arith)
+    ∙ ap (λ (l : List ℕ). sets l 0 (joined (made_places m from kc) n)) et
+    ∙ sets_over s filled (joined (made_places m from kc) n) (full ∙ ep ∙ sym (length_made m from n kc t long' fill n)) (omega (arith, length_made m from n kc t long' fill n))
     ∙ ap (sets s 0) same
 
 -- the same under a plan whose cells have the subcarriers kc
@@ -195,10 +196,10 @@ module _ (d : Device) (s kc : List ℕ) (w : Spotted d s kc) (m : ℕ) (em : m �
   unfolding frame_of
   places_of = emitter_places_are (frame_of d (plan_of s)) m (length kc) em w.all
 
-  pub fresh_of : (j l places : ℕ) → j < phases → l ≡ (plan_of s).plc → places ≡ places_before (emitter_delay m) (length kc) → (store t y : List ℕ)
-      → emitter_places (frame_of d (plan_of s)) ≤ length store → t ≡ sets store 0 (replicate places filler) → y ≡ with_placeholders m (symbols_until d.scatter_step (l + d.plc_width) j) kc t (length kc)
+  pub fresh_of : (j l places : ℕ) → l ≡ (plan_of s).plc → places ≡ places_before (emitter_delay m) (length kc) → (store t y : List ℕ)
+      → emitter_places (frame_of d (plan_of s)) ≤ length store → t ≡ sets store 0 (replicate places filler) → y ≡ with_placeholders m (l + d.plc_width + j) kc t (length kc)
       → y ≡ fresh_store (frame_of d (plan_of s)) j store
   unfolding frame_of
-  fresh_of j l places low el ep store t y long et ey =
-      fresh_is (frame_of d (plan_of s)) _ _ (turning_of d (plan_of s) w.fits) j low w.shallow w.deep m (l + d.plc_width) places kc store t y em w.all
-      (ap (λ (x : ℕ). x + d.plc_width) el) w.spots ep long et ey
+  fresh_of j l places el ep store t y long et ey =
+      fresh_is (frame_of d (plan_of s)) _ (turning_of d (plan_of s)) j w.shallow w.deep m (l + d.plc_width + j) places kc store t y em w.all
+      (ap (λ (x : ℕ). x + d.plc_width + j) el) w.spots ep long et ey

@@ -1,7 +1,7 @@
 // The places of fresh stores: an emitter's, which hold the flushes that would have come before its first step, and places of filler. Place i of
 // an emitter's cell is sent i symbols on, so it is a placeholder exactly if the pattern then stands on the subcarrier of the cell, and else
 // filler. specs/Spotted says what the places are made from, specs/Placeholders which of them are placeholders.
-ghost use Rattle.std.specs.Prelude.{◌≡◌, ◌⊎◌, ◌+◌, ◌%◌, ◌≤◌, ◌<◌, length, replicate};
+ghost use Rattle.std.specs.Prelude.{◌≡◌, ◌+◌, ◌%◌, ◌≤◌, ◌<◌, length, replicate};
 ghost use Rattle.std.proofs.lemmas.List.Edits.{sets};
 ghost use Rattle.rules.specs.Device.{phases};
 ghost use Rattle.rules.specs.Fits.{capacity};
@@ -9,7 +9,6 @@ ghost use Rattle.rules.specs.Plan.{plan_of};
 ghost use Rattle.rules.specs.Frame.{frame_of, filler};
 ghost use Rattle.rules.specs.Places.{emitter_delay, places_before};
 ghost use Rattle.rules.specs.Store.{emitter_places, fresh_store};
-ghost use Rattle.pattern.specs.Until.{symbols_until};
 ghost use Rattle.flushes.specs.Spotted.{Spotted};
 ghost use Rattle.flushes.specs.Placeholders.{with_placeholder, with_placeholders};
 
@@ -51,17 +50,17 @@ fn put_placeholder(store: &mut [u16], at: usize, delay: usize, i: usize)
     }
 }
 
-// The placeholders among the places of the cells, whose subcarriers are kc: of each cell at most one. The next symbol is at phase j; at phase
-// 0 the pattern stands on the subcarriers that are `base` modulo 128, and from phase to phase it moves up by `step`.
-fn put_placeholders(m: usize, step: usize, base: usize, j: usize, kc: &[u16], store: &mut [u16])
-    requires { (0 < m) × (m ≤ capacity) × ((step ≡ 1) ⊎ (step ≡ 2)) × (j < phases) × (length kc.now ≤ capacity) × (places_before (emitter_delay m) (length kc.now) ≤ length store.old) }
-    ensures { store.new ≡ with_placeholders m (symbols_until step base j) kc.now store.old (length kc.now) }
+// The placeholders among the places of the cells, whose subcarriers are kc: of each cell at most one. Now the pattern stands on the subcarriers
+// that are `base` modulo 128.
+fn put_placeholders(m: usize, base: usize, kc: &[u16], store: &mut [u16])
+    requires { (0 < m) × (m ≤ capacity) × (length kc.now ≤ capacity) × (places_before (emitter_delay m) (length kc.now) ≤ length store.old) }
+    ensures { store.new ≡ with_placeholders m base kc.now store.old (length kc.now) }
 {
     let mut p = 0;
     let mut at = 0;
     let mut delay = 0;
     while p < kc.len() {
-        let i = pattern::symbols_until(step, base, j, kc[p]);
+        let i = pattern::symbols_until(base, kc[p]);
         put_placeholder(store, at, delay, i);
         at = at + delay;
         let next = next_delay(delay, m);
@@ -78,5 +77,5 @@ pub fn fresh_places(d: Device, plan: &[u8], j: usize, kc: &[u16], store: &mut [u
     let l = records::number_at(plan, 4);
     let m = records::number_at(plan, 6);
     put_filler(store, places::emitter_places(m, kc.len()));
-    put_placeholders(m, d.scatter_step, l + d.plc_width, j, kc, store);
+    put_placeholders(m, l + d.plc_width + j, kc, store);
 }

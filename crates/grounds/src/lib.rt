@@ -1,30 +1,29 @@
 // Grounds 9 to 15, from the runs of excluded subcarriers and the marks of a plan that passed 1 to 8. The plan's bytes are not
 // read here: they are lent so that the contracts can speak of the plan.
-ghost use Rattle.std.specs.Prelude.{◌≡◌, length, ◌≤◌, ◌<◌};
+ghost use Rattle.std.specs.Prelude.{◌≡◌, ◌<◌};
 ghost use Rattle.rules.specs.Plan.{plan_of};
 ghost use Rattle.rules.specs.Roles.{ranked_count};
 ghost use Rattle.rules.specs.Grounds.{answer};
-ghost use Rattle.rules.specs.Fits.{Fits, bands_max};
+ghost use Rattle.rules.specs.Fits.{Fits};
 ghost use Rattle.bands.specs.BandList.{EdgeRuns, BandList};
 ghost use Rattle.marks.specs.Marked.{Marked};
 ghost use Rattle.grounds.specs.Order.{grounds13to15, grounds11to15, grounds9to15};
 
-use bands::BANDS;
 use counting::Found;
-use rules::{CAPACITY, Device, Verdict};
+use rules::{Device, Verdict};
 
 // Grounds 13 to 15.
 fn grounds_13_to_15(
     d: Device,
     plan: &[u8],
-    m: &[u16; CAPACITY],
-    a: &[u16; BANDS],
-    b: &[u16; BANDS],
-    c: &[u16; BANDS],
-    x: &[u16; CAPACITY],
+    m: &[u16; 4096],
+    a: &[u16; 256],
+    b: &[u16; 256],
+    c: &[u16; 256],
+    x: &[u16; 4096],
     bands: usize,
 ) -> Verdict
-    requires { Fits d × Marked d (plan_of plan.now) m.now × BandList d (plan_of plan.now) a.now b.now c.now x.now bands × (bands < bands_max) }
+    requires { Fits d × Marked d (plan_of plan.now) m.now × BandList d (plan_of plan.now) a.now b.now c.now x.now bands × (bands < 256) }
     ensures { result ≡ answer (grounds13to15 d (plan_of plan.now)) (ranked_count d (plan_of plan.now)) }
 {
     if let Found::At(k) = windows::first_window(
@@ -63,14 +62,14 @@ fn grounds_11_to_15(
     lo: &[u16],
     hi: &[u16],
     n: usize,
-    m: &[u16; CAPACITY],
-    a: &[u16; BANDS],
-    b: &[u16; BANDS],
-    c: &[u16; BANDS],
-    x: &[u16; CAPACITY],
+    m: &[u16; 4096],
+    a: &[u16; 256],
+    b: &[u16; 256],
+    c: &[u16; 256],
+    x: &[u16; 4096],
     bands: usize,
 ) -> Verdict
-    requires { Fits d × EdgeRuns d (plan_of plan.now) lo.now hi.now n × Marked d (plan_of plan.now) m.now × BandList d (plan_of plan.now) a.now b.now c.now x.now bands × (bands < bands_max) }
+    requires { Fits d × EdgeRuns d (plan_of plan.now) lo.now hi.now n × Marked d (plan_of plan.now) m.now × BandList d (plan_of plan.now) a.now b.now c.now x.now bands × (bands < 256) }
     ensures { result ≡ answer (grounds11to15 d (plan_of plan.now)) (ranked_count d (plan_of plan.now)) }
 {
     if span::much(d, plan, lo, hi, n) {
@@ -89,14 +88,14 @@ fn band_grounds(
     lo: &[u16],
     hi: &[u16],
     n: usize,
-    m: &[u16; CAPACITY],
-    a: &[u16; BANDS],
-    b: &[u16; BANDS],
-    c: &[u16; BANDS],
-    x: &[u16; CAPACITY],
+    m: &[u16; 4096],
+    a: &[u16; 256],
+    b: &[u16; 256],
+    c: &[u16; 256],
+    x: &[u16; 4096],
     bands: usize,
 ) -> Verdict
-    requires { Fits d × EdgeRuns d (plan_of plan.now) lo.now hi.now n × Marked d (plan_of plan.now) m.now × BandList d (plan_of plan.now) a.now b.now c.now x.now bands × (bands < bands_max) }
+    requires { Fits d × EdgeRuns d (plan_of plan.now) lo.now hi.now n × Marked d (plan_of plan.now) m.now × BandList d (plan_of plan.now) a.now b.now c.now x.now bands × (bands < 256) }
     ensures { result ≡ answer (grounds9to15 d (plan_of plan.now)) (ranked_count d (plan_of plan.now)) }
 {
     if let Found::At(k) = limits::first_narrow(d, plan, a, b, c, x, bands, d.band_min) {
@@ -108,22 +107,22 @@ fn band_grounds(
     grounds_11_to_15(d, plan, lo, hi, n, m, a, b, c, x, bands)
 }
 
-// Grounds 9 to 15, and N_I where none holds. The individually excluded are listed in x.
+// Grounds 9 to 15, and N_I where none holds.
 pub fn grounds_9_to_15(
     d: Device,
     plan: &[u8],
     lo: &[u16],
     hi: &[u16],
     n: usize,
-    m: &[u16; CAPACITY],
-    x: &mut [u16; CAPACITY],
+    m: &[u16; 4096],
 ) -> Verdict
-    requires { Fits d × EdgeRuns d (plan_of plan.now) lo.now hi.now n × Marked d (plan_of plan.now) m.now × (d.subcarriers ≤ length x.old) }
+    requires { Fits d × EdgeRuns d (plan_of plan.now) lo.now hi.now n × Marked d (plan_of plan.now) m.now }
     ensures { result ≡ answer (grounds9to15 d (plan_of plan.now)) (ranked_count d (plan_of plan.now)) }
 {
-    let mut a = [0u16; BANDS];
-    let mut b = [0u16; BANDS];
-    let mut c = [0u16; BANDS];
-    let bands = bands::bands(d, plan, lo, hi, n, &mut a, &mut b, &mut c, x);
-    band_grounds(d, plan, lo, hi, n, m, &a, &b, &c, x, bands)
+    let mut a = [0u16; 256];
+    let mut b = [0u16; 256];
+    let mut c = [0u16; 256];
+    let mut x = [0u16; 4096];
+    let bands = bands::bands(d, plan, lo, hi, n, &mut a, &mut b, &mut c, &mut x);
+    band_grounds(d, plan, lo, hi, n, m, &a, &b, &c, &x, bands)
 }

@@ -2,7 +2,7 @@
 // it tries the length of the answer buffer, calls the proved entry over plan bytes or two-byte cells, and has crates answers and
 // answerbytes lay its answer out in the buffer.
 ghost use Rattle.std.specs.Prelude.{◌≡◌};
-ghost use Rattle.rules.specs.Device.{device_of};
+ghost use Rattle.rules.specs.Device.{khz50};
 ghost use Rattle.headend.specs.Calls.{says, says_store, says_step, says_fill, says_lamp, says_numbers, judge_call, try_call, role_call, why_call, count_call, start_call, listen_call, emit_call, flush_call, receive_call, fill_call, unfill_call, pilots_call, lamp_call, modulate_call};
 
 use rules::{EmitterState, ReceiverState};
@@ -13,7 +13,7 @@ const ANSWER: usize = 16;
 // Judges a plan.
 #[unsafe(no_mangle)]
 pub extern "C" fn headend_judge(plan: &[u8], answer: &mut [u8]) -> u32
-    ensures { says result answer.new ≡ judge_call (device_of plan.now) plan.now answer.old }
+    ensures { says result answer.new ≡ judge_call khz50 plan.now answer.old }
 {
     if answer.len() < ANSWER {
         return 21;
@@ -24,7 +24,7 @@ pub extern "C" fn headend_judge(plan: &[u8], answer: &mut [u8]) -> u32
 // What one more excluded range would do to a plan.
 #[unsafe(no_mangle)]
 pub extern "C" fn headend_try(plan: &[u8], first: u32, last: u32, answer: &mut [u8]) -> u32
-    ensures { says result answer.new ≡ try_call (device_of plan.now) plan.now first last answer.old }
+    ensures { says result answer.new ≡ try_call khz50 plan.now first last answer.old }
 {
     if answer.len() < ANSWER {
         return 21;
@@ -38,7 +38,7 @@ pub extern "C" fn headend_try(plan: &[u8], first: u32, last: u32, answer: &mut [
 // The role of a subcarrier at a phase.
 #[unsafe(no_mangle)]
 pub extern "C" fn headend_role(plan: &[u8], subcarrier: u32, phase: u32, answer: &mut [u8]) -> u32
-    ensures { says result answer.new ≡ role_call (device_of plan.now) plan.now subcarrier phase answer.old }
+    ensures { says result answer.new ≡ role_call khz50 plan.now subcarrier phase answer.old }
 {
     if answer.len() < ANSWER {
         return 21;
@@ -52,7 +52,7 @@ pub extern "C" fn headend_role(plan: &[u8], subcarrier: u32, phase: u32, answer:
 // What a subcarrier is doing at a phase, and why.
 #[unsafe(no_mangle)]
 pub extern "C" fn headend_why(plan: &[u8], subcarrier: u32, phase: u32, answer: &mut [u8]) -> u32
-    ensures { says result answer.new ≡ why_call (device_of plan.now) plan.now subcarrier phase answer.old }
+    ensures { says result answer.new ≡ why_call khz50 plan.now subcarrier phase answer.old }
 {
     if answer.len() < ANSWER {
         return 21;
@@ -63,7 +63,7 @@ pub extern "C" fn headend_why(plan: &[u8], subcarrier: u32, phase: u32, answer: 
 // N_D at a phase.
 #[unsafe(no_mangle)]
 pub extern "C" fn headend_data_count(plan: &[u8], phase: u32, answer: &mut [u8]) -> u32
-    ensures { says result answer.new ≡ count_call (device_of plan.now) plan.now phase answer.old }
+    ensures { says result answer.new ≡ count_call khz50 plan.now phase answer.old }
 {
     if answer.len() < ANSWER {
         return 21;
@@ -79,7 +79,7 @@ pub extern "C" fn headend_fresh_emitter(
     store: &mut [u8],
     answer: &mut [u8],
 ) -> u32
-    ensures { says_store result store.new answer.new ≡ start_call (device_of plan.now) plan.now phase store.old answer.old }
+    ensures { says_store result store.new answer.new ≡ start_call khz50 plan.now phase store.old answer.old }
 {
     if answer.len() < ANSWER {
         return 21;
@@ -98,7 +98,7 @@ pub extern "C" fn headend_fresh_receiver(
     store: &mut [u8],
     answer: &mut [u8],
 ) -> u32
-    ensures { says_store result store.new answer.new ≡ listen_call (device_of plan.now) plan.now phase store.old answer.old }
+    ensures { says_store result store.new answer.new ≡ listen_call khz50 plan.now phase store.old answer.old }
 {
     if answer.len() < ANSWER {
         return 21;
@@ -120,7 +120,7 @@ pub extern "C" fn headend_emit(
     symbol: &mut [u8],
     answer: &mut [u8],
 ) -> u32
-    ensures { says_step result store.new symbol.new answer.new ≡ emit_call (device_of plan.now) plan.now profile.now phase store.old input.now symbol.old answer.old }
+    ensures { says_step result store.new symbol.new answer.new ≡ emit_call khz50 plan.now profile.now phase store.old input.now symbol.old answer.old }
 {
     if answer.len() < ANSWER {
         return 21;
@@ -141,7 +141,7 @@ pub extern "C" fn headend_flush(
     symbol: &mut [u8],
     answer: &mut [u8],
 ) -> u32
-    ensures { says_step result store.new symbol.new answer.new ≡ flush_call (device_of plan.now) plan.now phase store.old symbol.old answer.old }
+    ensures { says_step result store.new symbol.new answer.new ≡ flush_call khz50 plan.now phase store.old symbol.old answer.old }
 {
     if answer.len() < ANSWER {
         return 21;
@@ -165,7 +165,7 @@ pub extern "C" fn headend_receive(
     buffer: &mut [u8],
     answer: &mut [u8],
 ) -> u32
-    ensures { says_step result store.new buffer.new answer.new ≡ receive_call (device_of plan.now) plan.now profile.now phase heard store.old symbol.now buffer.old answer.old }
+    ensures { says_step result store.new buffer.new answer.new ≡ receive_call khz50 plan.now profile.now phase heard store.old symbol.now buffer.old answer.old }
 {
     if answer.len() < ANSWER {
         return 21;
@@ -188,7 +188,7 @@ pub extern "C" fn headend_fill(
     input: &mut [u8],
     answer: &mut [u8],
 ) -> u32
-    ensures { says_fill result input.new answer.new ≡ fill_call (device_of plan.now) plan.now profile.now phase stream.now start input.old answer.old }
+    ensures { says_fill result input.new answer.new ≡ fill_call khz50 plan.now profile.now phase stream.now start input.old answer.old }
 {
     if answer.len() < ANSWER {
         return 21;
@@ -210,7 +210,7 @@ pub extern "C" fn headend_unfill(
     stream: &mut [u8],
     answer: &mut [u8],
 ) -> u32
-    ensures { says_fill result stream.new answer.new ≡ unfill_call (device_of plan.now) plan.now profile.now phase input.now start stream.old answer.old }
+    ensures { says_fill result stream.new answer.new ≡ unfill_call khz50 plan.now profile.now phase input.now start stream.old answer.old }
 {
     if answer.len() < ANSWER {
         return 21;
@@ -224,7 +224,7 @@ pub extern "C" fn headend_unfill(
 // The continuous pilots of a plan, in the order of the lamp's record.
 #[unsafe(no_mangle)]
 pub extern "C" fn headend_pilots(plan: &[u8], list: &mut [u8], answer: &mut [u8]) -> u32
-    ensures { says_fill result list.new answer.new ≡ pilots_call (device_of plan.now) plan.now list.old answer.old }
+    ensures { says_fill result list.new answer.new ≡ pilots_call khz50 plan.now list.old answer.old }
 {
     if answer.len() < ANSWER {
         return 21;
@@ -241,7 +241,7 @@ pub extern "C" fn headend_lamp(
     lights: &mut [u8],
     answer: &mut [u8],
 ) -> u32
-    ensures { says_lamp result counts.new lights.new answer.new ≡ lamp_call (device_of plan.now) plan.now symbol.now counts.old lights.old answer.old }
+    ensures { says_lamp result counts.new lights.new answer.new ≡ lamp_call khz50 plan.now symbol.now counts.old lights.old answer.old }
 {
     if answer.len() < ANSWER {
         return 21;

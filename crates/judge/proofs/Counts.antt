@@ -11,12 +11,12 @@ use Rattle.counting.proofs.Searches.{count_no}
 use Rattle.rules.specs.declared.Device.{Device}
 use Rattle.rules.specs.Plan.{Plan}
 use Rattle.rules.specs.Bands.{excluded, active}
-use Rattle.rules.specs.Roles.{pattern_start, in_plc, continuous, ranked, scattered_at, scattered, scattered_count}
+use Rattle.rules.specs.Roles.{in_plc, continuous, ranked, scattered_at, scattered, scattered_count}
 
 module _ (d : Device) (p : Plan) (j : ℕ) where
   -- where the first one would stand
   abbrev pub phase_start : ℕ
-  phase_start = (p.plc + d.plc_width + pattern_start d.scatter_step j) % 128
+  phase_start = (p.plc + d.plc_width + j) % 128
 
   miss : (k : ℕ) → (k % 128 ≡ phase_start → ⊥) → scattered d p j k ≡ false
   unfolding scattered scattered_at

@@ -1,7 +1,7 @@
 // The judge of plans and what stands on it: the verdict, the role of a subcarrier, and how many are scattered. The entries `judge`,
 // `role` and `scattered_count` read the plan bytes anew, change nothing and ask nothing of their caller.
 ghost use Rattle.std.specs.Prelude.{◌≡◌, ◌<◌};
-ghost use Rattle.rules.specs.Device.{device_of, phases};
+ghost use Rattle.rules.specs.Device.{khz50, phases};
 ghost use Rattle.rules.specs.Plan.{plan_of};
 ghost use Rattle.rules.specs.Roles.{scattered_count};
 ghost use Rattle.rules.specs.Grounds.{verdict};
@@ -9,21 +9,21 @@ ghost use Rattle.rules.specs.Answers.{role_in, role_answer, scattered_answer};
 ghost use Rattle.rules.specs.Fits.{Fits};
 ghost use Rattle.verdicts.specs.Studied.{Studied};
 
-use rules::{CAPACITY, CountAnswer, Device, RoleAnswer, Verdict};
+use rules::{CountAnswer, Device, RoleAnswer, Verdict};
 
 // Phases are 0 to 127, and the scattered pilots of one phase stand so far apart.
 const PHASES: usize = 128;
 
 // The verdict on any bytes.
 pub fn judge(plan: &[u8]) -> Verdict
-    ensures { result ≡ verdict (device_of plan.now) plan.now }
+    ensures { result ≡ verdict khz50 plan.now }
 {
-    let mut m = [0u16; CAPACITY];
-    verdicts::study(rules::device_of(plan), plan, &mut m)
+    let mut m = [0u16; 4096];
+    verdicts::study(rules::khz50_device(), plan, &mut m)
 }
 
 // The role of subcarrier k of an accepted plan at a phase; ground 16 where one is out of its range.
-fn role_in(d: Device, plan: &[u8], m: &[u16; CAPACITY], k: u32, phase: u32) -> RoleAnswer
+fn role_in(d: Device, plan: &[u8], m: &[u16; 4096], k: u32, phase: u32) -> RoleAnswer
     requires { Fits d × Studied d plan.now m.now }
     ensures { result ≡ role_in d plan.now k phase }
 {
@@ -42,10 +42,10 @@ fn role_in(d: Device, plan: &[u8], m: &[u16; CAPACITY], k: u32, phase: u32) -> R
 
 // The role of a subcarrier at a phase.
 pub fn role(plan: &[u8], k: u32, phase: u32) -> RoleAnswer
-    ensures { result ≡ role_answer (device_of plan.now) plan.now k phase }
+    ensures { result ≡ role_answer khz50 plan.now k phase }
 {
-    let d = rules::device_of(plan);
-    let mut m = [0u16; CAPACITY];
+    let d = rules::khz50_device();
+    let mut m = [0u16; 4096];
     match verdicts::study(d, plan, &mut m) {
         Verdict::Refused(g, place) => RoleAnswer::Refused(g, place),
         Verdict::Accepted(_) => role_in(d, plan, &m, k, phase),
@@ -53,12 +53,12 @@ pub fn role(plan: &[u8], k: u32, phase: u32) -> RoleAnswer
 }
 
 // How many subcarriers of an accepted plan are scattered at phase j: every 128th from the first is looked at.
-fn count_scattered(d: Device, plan: &[u8], m: &[u16; CAPACITY], l: usize, j: usize) -> u32
+fn count_scattered(d: Device, plan: &[u8], m: &[u16; 4096], l: usize, j: usize) -> u32
     requires { Fits d × Studied d plan.now m.now × (l ≡ (plan_of plan.now).plc) × (j < phases) }
     ensures { result ≡ scattered_count d (plan_of plan.now) j }
 {
     let mut n: u32 = 0;
-    let mut k = roles::pattern_at(d, l, j);
+    let mut k = (l + d.plc_width + j) % PHASES;
     while k < d.subcarriers {
         let at = k;
         k += PHASES;
@@ -72,10 +72,10 @@ fn count_scattered(d: Device, plan: &[u8], m: &[u16; CAPACITY], l: usize, j: usi
 
 // How many subcarriers are scattered at a phase.
 pub fn scattered_count(plan: &[u8], phase: u32) -> CountAnswer
-    ensures { result ≡ scattered_answer (device_of plan.now) plan.now phase }
+    ensures { result ≡ scattered_answer khz50 plan.now phase }
 {
-    let d = rules::device_of(plan);
-    let mut m = [0u16; CAPACITY];
+    let d = rules::khz50_device();
+    let mut m = [0u16; 4096];
     if let Verdict::Refused(g, place) = verdicts::study(d, plan, &mut m) {
         return CountAnswer::Refused(g, place);
     }

@@ -3,7 +3,7 @@
 // cell. specs/Claims says what holds over whole lists of symbols.
 ghost use Rattle.std.specs.Prelude.{ℕ, ◌≡◌, List, get_or};
 ghost use Rattle.rules.specs.declared.Device.{Device};
-ghost use Rattle.rules.specs.Device.{device_of};
+ghost use Rattle.rules.specs.Device.{khz50};
 ghost use Rattle.rules.specs.Fits.{Fits};
 ghost use Rattle.lampgrounds.specs.Steps.{leaves_record, lamp_step};
 ghost use Rattle.lampgrounds.specs.Opening.{cells_at};
@@ -53,9 +53,9 @@ fn lamp_on(d: Device, plan: &[u8], symbol: &[u16], counts: &mut [u8]) -> LampAns
 
 // The lamp is given a symbol: its record goes on, and its lights are answered with the number of pilots.
 pub fn lamp(plan: &[u8], symbol: &[u16], counts: &mut [u8]) -> LampAnswer
-    ensures { leaves_record result counts.new ≡ lamp_step (device_of plan.now) plan.now counts.old symbol.now }
+    ensures { leaves_record result counts.new ≡ lamp_step khz50 plan.now counts.old symbol.now }
 {
-    lamp_on(rules::device_of(plan), plan, symbol, counts)
+    lamp_on(rules::khz50_device(), plan, symbol, counts)
 }
 
 // Any device that fits, any bytes as a plan: it never refuses on a cell, and a refusal changes nothing. Every accepted plan and all lists of

@@ -5,14 +5,13 @@ ghost use Rattle.counting.specs.Search.{first};
 ghost use Rattle.counting.specs.Answer.{place_of};
 ghost use Rattle.rules.specs.Plan.{plan_of};
 ghost use Rattle.rules.specs.Bands.{width};
-ghost use Rattle.rules.specs.Fits.{Fits, capacity, bands_max};
+ghost use Rattle.rules.specs.Fits.{Fits, capacity};
 ghost use Rattle.bands.specs.BandList.{BandList};
 ghost use Rattle.limits.specs.BandAt.{BandAt};
 ghost use Rattle.limits.specs.Answers.{narrow_in, wide_in, much_in, at_band};
 
-use bands::BANDS;
 use counting::{Found, wide};
-use rules::{CAPACITY, Device};
+use rules::Device;
 
 // A band, and its part of the list x of the individually excluded: from `from` to `to` - 1.
 #[derive(Drop)]
@@ -27,14 +26,14 @@ pub struct Band {
 pub fn band_at(
     d: Device,
     plan: &[u8],
-    a: &[u16; BANDS],
-    b: &[u16; BANDS],
-    c: &[u16; BANDS],
-    x: &[u16; CAPACITY],
+    a: &[u16; 256],
+    b: &[u16; 256],
+    c: &[u16; 256],
+    x: &[u16; 4096],
     m: usize,
     j: usize,
 ) -> Band
-    requires { Fits d × BandList d (plan_of plan.now) a.now b.now c.now x.now m × (m < bands_max) × (j < m) }
+    requires { Fits d × BandList d (plan_of plan.now) a.now b.now c.now x.now m × (m < 256) × (j < m) }
     ensures { BandAt (plan_of plan.now) a.now b.now x.now j result.low result.high result.from result.to }
 {
     Band {
@@ -57,14 +56,14 @@ pub fn width_of(a: usize, b: usize) -> usize
 pub fn first_narrow(
     d: Device,
     plan: &[u8],
-    a: &[u16; BANDS],
-    b: &[u16; BANDS],
-    c: &[u16; BANDS],
-    x: &[u16; CAPACITY],
+    a: &[u16; 256],
+    b: &[u16; 256],
+    c: &[u16; 256],
+    x: &[u16; 4096],
     m: usize,
     w: usize,
 ) -> Found
-    requires { Fits d × BandList d (plan_of plan.now) a.now b.now c.now x.now m × (m < bands_max) }
+    requires { Fits d × BandList d (plan_of plan.now) a.now b.now c.now x.now m × (m < 256) }
     ensures { place_of result ≡ first (at_band (narrow_in w) a.now b.now) m }
 {
     let mut j: usize = 0;
@@ -82,14 +81,14 @@ pub fn first_narrow(
 pub fn first_wide(
     d: Device,
     plan: &[u8],
-    a: &[u16; BANDS],
-    b: &[u16; BANDS],
-    c: &[u16; BANDS],
-    x: &[u16; CAPACITY],
+    a: &[u16; 256],
+    b: &[u16; 256],
+    c: &[u16; 256],
+    x: &[u16; 4096],
     m: usize,
     w: usize,
 ) -> Found
-    requires { Fits d × BandList d (plan_of plan.now) a.now b.now c.now x.now m × (m < bands_max) }
+    requires { Fits d × BandList d (plan_of plan.now) a.now b.now c.now x.now m × (m < 256) }
     ensures { place_of result ≡ first (at_band (wide_in w) a.now b.now) m }
 {
     let mut j: usize = 0;
@@ -107,13 +106,13 @@ pub fn first_wide(
 pub fn first_much(
     d: Device,
     plan: &[u8],
-    a: &[u16; BANDS],
-    b: &[u16; BANDS],
-    c: &[u16; BANDS],
-    x: &[u16; CAPACITY],
+    a: &[u16; 256],
+    b: &[u16; 256],
+    c: &[u16; 256],
+    x: &[u16; 4096],
     m: usize,
 ) -> Found
-    requires { Fits d × BandList d (plan_of plan.now) a.now b.now c.now x.now m × (m < bands_max) }
+    requires { Fits d × BandList d (plan_of plan.now) a.now b.now c.now x.now m × (m < 256) }
     ensures { place_of result ≡ first (at_band (much_in (plan_of plan.now)) a.now b.now) m }
 {
     let mut j: usize = 0;

@@ -1,4 +1,4 @@
--- From a fresh start the short store gives the same as the long store, under every plan that its device accepts. Assumes nothing.
+-- From a fresh start the short store gives the same as the long store, under every plan that the 50 kHz device accepts. Assumes nothing.
 use Prim.Native.Nat.{ℕ, ◌*◌, ◌≤◌, ◌<◌}
 use mathlib.Core.Path.{◌≡◌, sym, ap, subst₂}
 use mathlib.Core.Bool.{true}
@@ -8,14 +8,14 @@ use Rattle.rules.specs.declared.Device.{Device}
 use Rattle.rules.specs.declared.Finding.{Finding}
 use Rattle.rules.specs.declared.Finding.TheVariants.{Fine, Ground}
 use Rattle.rules.specs.declared.Verdict.TheVariants.{Accepted}
-use Rattle.rules.specs.Device.{device_of, phases}
+use Rattle.rules.specs.Device.{khz50, phases}
 use Rattle.rules.specs.Plan.{plan_of}
 use Rattle.rules.specs.Grounds.{grounds1to15, verdict}
 use Rattle.rules.specs.Frame.{Frame, frame_of, cells}
 use Rattle.rules.specs.Steps as short
-use Rattle.rules.proofs.Sizes.{plan_depth}
 use Rattle.frame.proofs.Cells.{Sound}
 use Rattle.facts.proofs.Framed.{sound}
+use Rattle.facts.proofs.Sizes.{khz50_roomy}
 use Rattle.verdicts.proofs.Verdicts.{no_ground}
 use Rattle.runs.proofs.Steps.{frame_entries, frame_entries_lem, fresh_in}
 use Rattle.runs.proofs.Hears.{listens_in}
@@ -75,6 +75,6 @@ pub same_as_long : (d : Device) (s : List ℕ) → d.depth_max ≤ phases → gr
 same_as_long d s h fine =
     subst₂ (Same (frame_of d (plan_of s))) (sym (frame_entries_lem d s fine)) (sym (long_entries_lem d s fine)) (frame_same (frame_of d (plan_of s)) (sound d s h fine))
 
--- every plan that its device accepts
-pub accepted_same : (s : List ℕ) (n : ℕ) → verdict (device_of s) s ≡ Accepted n → SameAsLong (device_of s) s
-accepted_same s n e = same_as_long (device_of s) s (plan_depth s) (no_ground (device_of s) s n (sym e))
+-- every plan that the 50 kHz device accepts
+pub accepted_same : (s : List ℕ) (n : ℕ) → verdict khz50 s ≡ Accepted n → SameAsLong khz50 s
+accepted_same s n e = same_as_long khz50 s khz50_roomy.depth (no_ground khz50 s n (sym e))

@@ -62,7 +62,7 @@ module _ (F : Frame) where
   unfoldable pub short_buffer : ReceiverState → List ℕ → Bool
   short_buffer v b = not (warming v) && ltb (length b) (out_count v)
 
-  -- 17: the store is too short, the symbol does not have the device's cells, or the data buffer is too short
+  -- 17: the store is too short, the symbol is not 4,096 cells, or the data buffer is too short
   unfoldable pub receiver_ground17 : Receiver → Arrival → Finding
   receiver_ground17 v a =
       ground? 17 (when (short_store F v.store || not (eqb (length a.symbol) F.width) || short_buffer v.state a.buffer) 0)

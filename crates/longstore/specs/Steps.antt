@@ -51,7 +51,7 @@ module _ (F : Frame) where
   unfoldable pub short_store : List ℕ → Bool
   short_store s = ltb (length s) (F.depth * cells F)
 
-  -- 17: the store is too short, or the symbol does not have the device's cells
+  -- 17: the store is too short, or the symbol is not 4,096 cells
   unfoldable pub ground17 : List ℕ → List ℕ → Finding
   ground17 s room = ground? 17 (when (short_store s || not (eqb (length room) F.width)) 0)
 

@@ -3,7 +3,7 @@
 // that have a row; fields are spelled as in the definitions. The function does nothing; its contract is the theorem.
 ghost use Rattle.std.specs.Prelude.{ℕ, ◌≡◌, List};
 ghost use Rattle.rules.specs.declared.Verdict.TheVariants.{Accepted};
-ghost use Rattle.rules.specs.Device.{device_of};
+ghost use Rattle.rules.specs.Device.{khz50};
 ghost use Rattle.rules.specs.Grounds.{verdict};
 ghost use Rattle.longstore.specs.Same.{SameAsLong};
 
@@ -52,7 +52,7 @@ pub enum ReceiveAnswer {
     Refused(u32, u32, ReceiverState),
 }
 
-// Every plan that its device accepts: from a fresh start the symbols sent and the data handed out are those of the long store.
+// Every accepted plan: from a fresh start the symbols sent and the data handed out are those of the long store.
 pub fn same_as_long()
-    ensures { (s : List ℕ) (n : ℕ) → verdict (device_of s) s ≡ Accepted n → SameAsLong (device_of s) s }
+    ensures { (s : List ℕ) (n : ℕ) → verdict khz50 s ≡ Accepted n → SameAsLong khz50 s }
 {}

@@ -11,13 +11,13 @@ ghost use Rattle.marks.specs.Marked.{Cells, grounds6to8, MarkedIf, Ready};
 ghost use Rattle.marks.specs.Stages.{FirstOf, painted, Placed, AfterPilots};
 
 use counting::{Found, wide};
-use rules::{CAPACITY, Device, Finding};
+use rules::{Device, Finding};
 
 // The mark of a continuous pilot.
 const CONTINUOUS: u16 = 0x8003;
 
 // The first cell from a to b - 1 that is clear, or that is marked; b if there is none.
-fn first_from(m: &[u16; CAPACITY], a: usize, b: usize, clear: bool) -> usize
+fn first_from(m: &[u16; 4096], a: usize, b: usize, clear: bool) -> usize
     requires { (a ≤ b) × (b ≤ capacity) }
     ensures { FirstOf clear (is_zero m.now) a b result }
 {
@@ -32,7 +32,7 @@ fn first_from(m: &[u16; CAPACITY], a: usize, b: usize, clear: bool) -> usize
 }
 
 // Ground 6: a subcarrier outside the range of active ones is active.
-fn ground6(d: Device, plan: &[u8], m: &[u16; CAPACITY]) -> Found
+fn ground6(d: Device, plan: &[u8], m: &[u16; 4096]) -> Found
     requires { Fits d × Cells d.subcarriers (painted (excluded (plan_of plan.now))) m.now }
     ensures { place_of result ≡ outside d (plan_of plan.now) }
 {
@@ -48,7 +48,7 @@ fn ground6(d: Device, plan: &[u8], m: &[u16; CAPACITY]) -> Found
 }
 
 // Ground 7: a subcarrier around the PLC is excluded.
-fn ground7(d: Device, plan: &[u8], m: &[u16; CAPACITY], l: usize) -> Found
+fn ground7(d: Device, plan: &[u8], m: &[u16; 4096], l: usize) -> Found
     requires { Fits d × Cells d.subcarriers (painted (excluded (plan_of plan.now))) m.now × (l ≡ (plan_of plan.now).plc) × (d.low_plc ≤ l) × (l ≤ d.high_plc) }
     ensures { place_of result ≡ around_plc d (plan_of plan.now) }
 {
@@ -67,7 +67,7 @@ fn ground8(
     pil: &[u16; 128],
     rec: &[u16; 128],
     np: usize,
-    m: &mut [u16; CAPACITY],
+    m: &mut [u16; 4096],
 ) -> Found
     requires { Placed d (plan_of plan.now) pil.now rec.now np m.old }
     ensures { (place_of result ≡ pilot_clash d (plan_of plan.now) [] (plan_of plan.now).pilots) × AfterPilots result d (plan_of plan.now) m.new }
@@ -95,7 +95,7 @@ pub fn grounds_6_to_8(
     rec: &[u16; 128],
     np: usize,
     l: usize,
-    m: &mut [u16; CAPACITY],
+    m: &mut [u16; 4096],
 ) -> Finding
     requires { Ready d (plan_of plan.now) lo.now hi.now n pil.now rec.now np l m.old }
     ensures { (result ≡ grounds6to8 d (plan_of plan.now)) × MarkedIf result d (plan_of plan.now) m.new × (length m.new ≡ capacity) }

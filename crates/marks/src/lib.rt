@@ -10,7 +10,7 @@ ghost use Rattle.marks.specs.Marked.{Cells};
 ghost use Rattle.marks.specs.Stages.{between, Stamped, AllBelow, painted, with_pilots, Free};
 
 use counting::wide;
-use rules::{CAPACITY, Device};
+use rules::Device;
 
 // The mark of an excluded subcarrier.
 const EXCLUDED: u16 = 0x8002;
@@ -22,7 +22,7 @@ const CONTINUOUS: u16 = 0x8003;
 const PLC: u16 = 0x8004;
 
 // The cells from a to b - 1 set to v.
-fn spread(m: &mut [u16; CAPACITY], a: usize, b: usize, v: u16)
+fn spread(m: &mut [u16; 4096], a: usize, b: usize, v: u16)
     requires { (length m.old ≡ capacity) × (a ≤ b) × (b ≤ capacity) }
     ensures { Stamped v (between a b) m.old m.new }
 {
@@ -34,7 +34,7 @@ fn spread(m: &mut [u16; CAPACITY], a: usize, b: usize, v: u16)
 }
 
 // The marks cleared, and the excluded subcarriers painted.
-pub fn paint(plan: &[u8], size: usize, lo: &[u16], hi: &[u16], n: usize, m: &mut [u16; CAPACITY])
+pub fn paint(plan: &[u8], size: usize, lo: &[u16], hi: &[u16], n: usize, m: &mut [u16; 4096])
     requires { Runs (excluded (plan_of plan.now)) size lo.now hi.now n × (n ≤ length lo.now) × (n ≤ length hi.now) × (length m.old ≡ capacity) × (size ≤ capacity) }
     ensures { Cells size (painted (excluded (plan_of plan.now))) m.new }
 {
@@ -49,7 +49,7 @@ pub fn paint(plan: &[u8], size: usize, lo: &[u16], hi: &[u16], n: usize, m: &mut
 }
 
 // The pilots marked.
-fn mark_pilots(m: &mut [u16; CAPACITY], pilots: [u16; 8])
+fn mark_pilots(m: &mut [u16; 4096], pilots: [u16; 8])
     requires { (length m.old ≡ capacity) × AllBelow capacity pilots }
     ensures { Stamped continuous_mark (λ k. one_of k pilots) m.old m.new }
 {
@@ -61,7 +61,7 @@ fn mark_pilots(m: &mut [u16; CAPACITY], pilots: [u16; 8])
 }
 
 // The PLC and the predefined pilots marked, none of which is excluded.
-pub fn mark_fixed(d: Device, plan: &[u8], m: &mut [u16; CAPACITY], l: usize)
+pub fn mark_fixed(d: Device, plan: &[u8], m: &mut [u16; 4096], l: usize)
     requires { Free d (plan_of plan.now) l × Cells d.subcarriers (painted (excluded (plan_of plan.now))) m.old }
     ensures { Cells d.subcarriers (with_pilots d (plan_of plan.now) (λ k. one_of k (predefined d (plan_of plan.now).plc))) m.new }
 {

@@ -2,16 +2,16 @@
 ghost use Rattle.std.specs.Prelude.{◌≡◌, true, false, ◌&&◌, ◌+◌, ◌*◌, ◌≤◌, ◌<◌, eqb, length};
 ghost use Rattle.std.proofs.Math.Option.{none};
 ghost use Rattle.counting.specs.Search.{lowest};
+ghost use Rattle.rules.specs.Device.{khz50};
 ghost use Rattle.rules.specs.Fits.{capacity};
 ghost use Rattle.coordinates.specs.Table.{Filled};
 ghost use Rattle.modulator.specs.Lines.{line_answer};
-ghost use Rattle.modulator.specs.Symbols.{device_of_width, is_minus, line_at, put_answer, filled_to, refused_at, modulates, modulate_step};
+ghost use Rattle.modulator.specs.Symbols.{is_minus, line_at, put_answer, filled_to, refused_at, modulates, modulate_step};
 ghost use Rattle.loadlimits.specs.Limits.{limit_of, admits, unadmitted};
 
 use coordinates::{ENTRIES, fill_table, point_from};
 use loadlimits::first_refused;
 use modulator::{LineAnswer, ModulateAnswer, OnLine, fill_subcarrier, mark_line, on_line};
-use rules::Device;
 
 // The load that a byte says.
 fn load_of(b: u8) -> u32
@@ -76,17 +76,6 @@ fn fill(symbol: &[u16], loads: &[u8], minus: &[u8], out: &mut [f32])
     fill_from(&t, symbol, loads, minus, out);
 }
 
-// The device of a symbol of n cells. Its subcarriers fit an array.
-pub fn device_of_width(n: usize) -> Device
-    ensures { (result ≡ device_of_width n) × (result.subcarriers ≤ capacity) }
-{
-    let d = rules::khz25_device();
-    if n == d.subcarriers {
-        return d;
-    }
-    rules::khz50_device()
-}
-
 // Whether four lengths are those of n subcarriers (17).
 fn lengths_fit(n: usize, symbol: usize, loads: usize, minus: usize, out: usize) -> bool
     requires { n ≤ capacity }
@@ -115,12 +104,12 @@ fn refusal(symbol: &[u16], loads: &[u8], minus: &[u8], k: usize) -> ModulateAnsw
     }
 }
 
-// Fills a modulator symbol: two numbers for each subcarrier, from the symbol on the line, the load of each subcarrier and the sign of its
-// pilot. The symbol's length says which device it is of. What it refuses, it leaves as it was.
+// Fills a modulator symbol of the 50 kHz device: two numbers for each subcarrier, from the symbol on the line, the load of each subcarrier and the
+// sign of its pilot. What it refuses, it leaves as it was.
 pub fn modulate(symbol: &[u16], loads: &[u8], minus: &[u8], out: &mut [f32]) -> ModulateAnswer
-    ensures { modulates result out.new ≡ modulate_step symbol.now loads.now minus.now (device_of_width (length symbol.now)) out.old }
+    ensures { modulates result out.new ≡ modulate_step symbol.now loads.now minus.now khz50 out.old }
 {
-    let d = device_of_width(symbol.len());
+    let d = rules::khz50_device();
     if !lengths_fit(
         d.subcarriers,
         symbol.len(),

@@ -5,7 +5,6 @@ use Rattle.std.proofs.Math.Option.{Option, none, some}
 use Rattle.std.specs.Float.{fin}
 use Rattle.counting.specs.Search.{pick, lowest}
 use Rattle.rules.specs.declared.Device.{Device}
-use Rattle.rules.specs.Device.{khz50, khz25}
 use Rattle.modulator.specs.declared.OnLine.{OnLine}
 use Rattle.modulator.specs.declared.OnLine.TheVariants.{Silent, Open, Point, Pilot}
 use Rattle.modulator.specs.declared.LineAnswer.{LineAnswer}
@@ -13,11 +12,6 @@ use Rattle.modulator.specs.declared.LineAnswer.TheVariants as a-line
 use Rattle.modulator.specs.declared.ModulateAnswer.{ModulateAnswer}
 use Rattle.modulator.specs.declared.ModulateAnswer.TheVariants.{Modulated, Refused}
 use Rattle.modulator.specs.Lines.{line_answer}
-
--- The device of a symbol of n cells, where no plan is given (request 11): a symbol of 8,192 cells is of the 25 kHz device, and one of any other length
--- is judged as the 50 kHz device's.
-unfoldable pub device_of_width : ℕ → Device
-device_of_width n = pick (eqb n khz25.subcarriers) khz25 khz50
 
 -- the number 0
 abbrev pub nought : Float

@@ -4,7 +4,7 @@
 ghost use Rattle.std.specs.Prelude.{ℕ, ◌+◌, ◌%◌, ◌≤◌, ◌≡◌, false, List, eqb, length};
 ghost use Rattle.counting.specs.Search.{count};
 ghost use Rattle.rules.specs.declared.Finding.TheVariants.{Fine};
-ghost use Rattle.rules.specs.Device.{device_of};
+ghost use Rattle.rules.specs.Device.{khz50};
 ghost use Rattle.rules.specs.Fits.{Fits, capacity};
 ghost use Rattle.rules.specs.Plan.{plan_of};
 ghost use Rattle.rules.specs.Roles.{continuous_mark};
@@ -14,7 +14,7 @@ ghost use Rattle.pilots.specs.Pilots.{pilots_most, continuous_pilots, listing, p
 ghost use Rattle.pilots.specs.Marked.{is_marked, marked_below, Listed};
 ghost use Rattle.pilots.specs.Claims.{PilotClaims};
 
-use rules::{CAPACITY, CountAnswer, Device, Verdict};
+use rules::{CountAnswer, Device, Verdict};
 
 // The most continuous pilots that an accepted plan has: 8 predefined ones and 120 of kind 3.
 pub const PILOTS: usize = 128;
@@ -119,7 +119,7 @@ pub fn pilots_on(d: Device, plan: &[u8]) -> PilotAnswer
     requires { Fits d }
     ensures { result ≡ pilots_answer d plan.now }
 {
-    let mut marks = [0u16; CAPACITY];
+    let mut marks = [0u16; 4096];
     match verdicts::study(d, plan, &mut marks) {
         Verdict::Refused(g, place) => PilotAnswer {
             answer: CountAnswer::Refused(g, place),
@@ -131,13 +131,13 @@ pub fn pilots_on(d: Device, plan: &[u8]) -> PilotAnswer
 
 // The continuous pilots of a plan, in rising order.
 pub fn pilots(plan: &[u8]) -> PilotAnswer
-    ensures { result ≡ pilots_answer (device_of plan.now) plan.now }
+    ensures { result ≡ pilots_answer khz50 plan.now }
 {
-    pilots_on(rules::device_of(plan), plan)
+    pilots_on(rules::khz50_device(), plan)
 }
 
 // Any bytes as a plan: the list has each subcarrier with the role continuous, once, in rising order; of an accepted plan eight, and one for
 // each kind 3 record on the chain.
 pub fn pilot_claims()
-    ensures { (s : List ℕ) → PilotClaims (device_of s) s }
+    ensures { (s : List ℕ) → PilotClaims khz50 s }
 {}

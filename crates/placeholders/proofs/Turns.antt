@@ -12,6 +12,7 @@ use lib.Seq.{sets, length-sets, length-take-le, get_or-take, take_all}
 use Rattle.counting.specs.Search.{bit, sum, count, tabulate}
 use Rattle.counting.proofs.Laws.{count_ext, count_add}
 use Rattle.counting.proofs.Lists.{length_tabulate, get_d_tabulate, get_d_sets_before, get_or-sets_in, get_or-sets_0, sets_snoc}
+use Rattle.rules.specs.Device.{phases}
 use Rattle.placeholders.specs.Meets.{meets, like, Wanted}
 
 -- whole turns before do not matter
@@ -29,71 +30,75 @@ split P a i f g =
 pub next_stored : (s x y : List ℕ) (at i v : ℕ) → y ≡ sets s at (take i x) → i < length x → v ≡ get_or x i 0 → set y (at + i) v ≡ sets s at (take (i + 1) x)
 next_stored s x y at i v ey h ev = rw (ey, ev, add-one i) (sets_snoc s at x i h)
 
--- one more cell of the first turn
-pub first_next : (m : ℕ) (w : ℕ → ℕ) (d v : ℕ) (s y : List ℕ) → y ≡ sets s 0 (take d (tabulate w m)) → d < m → v ≡ w d → set y d v ≡ sets s 0 (take (d + 1) (tabulate w m))
-first_next m w d v s y ey h e =
-    rw (zero-add d) at (next_stored s (tabulate w m) y 0 d v ey (omega (arith, length_tabulate w m)) (e ∙ sym (get_d_tabulate w m 0 d h)))
+-- what the cells of the first turn want
+abbrev pub firstTurn : ℕ → ℕ → List ℕ
+firstTurn m base = tabulate (λ i. (base + i) % phases) m
 
-pub wanted_first : (m : ℕ) (w : ℕ → ℕ) (d : ℕ) (s y : List ℕ) → 0 < m → m ≤ 256 → m ≤ d → length s ≡ 256 → y ≡ sets s 0 (take d (tabulate w m)) → Wanted m w m y
-wanted_first m w d s y pos few h el ey = record {
-  long = ap length ey ∙ length-sets s 0 (take d (tabulate w m)) ∙ el;
+pub first_next : (m base d : ℕ) (s y : List ℕ) → y ≡ sets s 0 (take d (firstTurn m base)) → d < m → set y d ((base + d) % phases) ≡ sets s 0 (take (d + 1) (firstTurn m base))
+first_next m base d s y ey h =
+    rw (zero-add d) at
+    (next_stored s (firstTurn m base) y 0 d ((base + d) % phases) ey (omega (arith, length_tabulate (λ i. (base + i) % phases) m)) (sym (get_d_tabulate (λ i. (base + i) % phases) m 0 d h)))
+
+pub wanted_first : (m base d : ℕ) (s y : List ℕ) → 0 < m → m ≤ 256 → m ≤ d → length s ≡ 256 → y ≡ sets s 0 (take d (firstTurn m base)) → Wanted m base m y
+wanted_first m base d s y pos few h el ey = record {
+  long = ap length ey ∙ length-sets s 0 (take d (firstTurn m base)) ∙ el;
   some = pos;
   few = few;
   whole = mod_self m;
   each = λ i k.
-      ap (λ (l : List ℕ). get_or l i 0) (ey ∙ ap (sets s 0) (take_all d (tabulate w m) (omega (arith, size))))
-      ∙ get_or-sets_0 s (tabulate w m) 0 i (omega (arith, size)) (omega (arith, size))
-      ∙ get_d_tabulate w m 0 i k ∙ ap w (sym (mod-eq_of_lt k));
+      ap (λ (l : List ℕ). get_or l i 0) (ey ∙ ap (sets s 0) (take_all d (firstTurn m base) (omega (arith, size))))
+      ∙ get_or-sets_0 s (firstTurn m base) 0 i (omega (arith, size)) (omega (arith, size))
+      ∙ get_d_tabulate (λ i. (base + i) % phases) m 0 i k ∙ ap (λ (x : ℕ). (base + x) % phases) (sym (mod-eq_of_lt k));
 }
   where
-    size : length (tabulate w m) ≡ m
-    size = length_tabulate w m
+    size : length (firstTurn m base) ≡ m
+    size = length_tabulate (λ i. (base + i) % phases) m
 
 -- as many turns again
-pub wanted_twice : (m : ℕ) (w : ℕ → ℕ) (len : ℕ) (want y : List ℕ) → len ≤ 128 → Wanted m w len want → y ≡ sets want len (take len want) → Wanted m w (len + len) y
-wanted_twice m w len want y low a ey = record {
-  long = ap length ey ∙ length-sets want len (take len want) ∙ a.long;
-  some = omega (arith, a.some);
+pub wanted_twice : (m base len : ℕ) (want y : List ℕ) → len ≤ 128 → Wanted m base len want → y ≡ sets want len (take len want) → Wanted m base (len + len) y
+wanted_twice m base len want y low w ey = record {
+  long = ap length ey ∙ length-sets want len (take len want) ∙ w.long;
+  some = omega (arith, w.some);
   few = omega arith;
-  whole = turn_mod m len len a.whole ∙ a.whole;
+  whole = turn_mod m len len w.whole ∙ w.whole;
   each = λ i h.
       rw ey
-      (split (λ (i : ℕ). i < len + len → get_or (sets want len (take len want)) i 0 ≡ w (i % m)) len i
-      (λ c g. get_d_sets_before want len (take len want) 0 i c ∙ a.each i c)
+      (split (λ (i : ℕ). i < len + len → get_or (sets want len (take len want)) i 0 ≡ (base + i % m) % phases) len i
+      (λ c g. get_d_sets_before want len (take len want) 0 i c ∙ w.each i c)
       (λ j e g.
       let jl : j < len = omega arith in
-      get_or-sets_in want len (take len want) 0 j (omega (arith, size)) (omega (arith, a.long))
-      ∙ get_or-take len want j 0 jl ∙ a.each j jl ∙ ap w (sym (turn_mod m len j a.whole)))
+      get_or-sets_in want len (take len want) 0 j (omega (arith, size)) (omega (arith, w.long))
+      ∙ get_or-take len want j 0 jl ∙ w.each j jl ∙ ap (λ (x : ℕ). (base + x) % phases) (sym (turn_mod m len j w.whole)))
       h);
 }
   where
     size : length (take len want) ≡ len
-    size = length-take-le len want (omega (arith, a.long))
+    size = length-take-le len want (omega (arith, w.long))
 
 -- the first b cells have their flags, and n of them are flagged; b is whole turns while cells are left
-pub record Flagged (m : ℕ) (w : ℕ → ℕ) (kc flag : List ℕ) (b n : ℕ) : Type 0 where
+pub record Flagged (m base : ℕ) (kc flag : List ℕ) (b n : ℕ) : Type 0 where
   pub turns : b < length kc → b % m ≡ 0
-  pub number : n ≡ count (meets w m kc) b
-  pub flags : (p : ℕ) → p < b → get_or flag p 0 ≡ bit (meets w m kc p)
+  pub number : n ≡ count (meets base m kc) b
+  pub flags : (p : ℕ) → p < b → get_or flag p 0 ≡ bit (meets base m kc p)
 
-pub flagged_none : (m : ℕ) (w : ℕ → ℕ) (kc flag : List ℕ) → Flagged m w kc flag 0 0
+pub flagged_none : (m base : ℕ) (kc flag : List ℕ) → Flagged m base kc flag 0 0
 unfolding count sum
-flagged_none m w kc flag = record { turns = λ h. zero-mod m; number = refl; flags = λ p h. absurd (omega arith) }
+flagged_none m base kc flag = record { turns = λ h. zero-mod m; number = refl; flags = λ p h. absurd (omega arith) }
 
 -- one more block
-module _ (m : ℕ) (w : ℕ → ℕ) (len : ℕ) (kc want : List ℕ) (a : Wanted m w len want) (b k : ℕ) (low : b % m ≡ 0) (few : k ≤ len) where
-  like_meets : (i : ℕ) → i < k → like want kc b i ≡ meets w m kc (b + i)
+module _ (m base len : ℕ) (kc want : List ℕ) (w : Wanted m base len want) (b k : ℕ) (low : b % m ≡ 0) (few : k ≤ len) where
+  like_meets : (i : ℕ) → i < k → like want kc b i ≡ meets base m kc (b + i)
   unfolding like meets
-  like_meets i h = rw (a.each i (omega arith), turn_mod m b i low) refl
+  like_meets i h = rw (w.each i (omega arith), turn_mod m b i low) refl
 
   pub flagged_next : (flag y : List ℕ) (n v : ℕ) → b + k ≤ length flag → (b + k < length kc → k ≡ len)
-      → y ≡ sets flag b (tabulate (λ i. bit (like want kc b i)) k) → v ≡ count (like want kc b) k → Flagged m w kc flag b n → Flagged m w kc y (b + k) (n + v)
+      → y ≡ sets flag b (tabulate (λ i. bit (like want kc b i)) k) → v ≡ count (like want kc b) k → Flagged m base kc flag b n → Flagged m base kc y (b + k) (n + v)
   flagged_next flag y n v room full ey ev f = record {
-    turns = λ h. turn_mod m b k low ∙ ap (λ (x : ℕ). x % m) (full h) ∙ a.whole;
-    number = omega (arith, f.number, ev, count_add (meets w m kc) b k, count_ext (like want kc b) (λ i. meets w m kc (b + i)) k like_meets);
+    turns = λ h. turn_mod m b k low ∙ ap (λ (x : ℕ). x % m) (full h) ∙ w.whole;
+    number = omega (arith, f.number, ev, count_add (meets base m kc) b k, count_ext (like want kc b) (λ i. meets base m kc (b + i)) k like_meets);
     flags = λ p h.
         rw ey
-        (split (λ (p : ℕ). p < b + k → get_or (sets flag b (tabulate (λ i. bit (like want kc b i)) k)) p 0 ≡ bit (meets w m kc p)) b p
+        (split (λ (p : ℕ). p < b + k → get_or (sets flag b (tabulate (λ i. bit (like want kc b i)) k)) p 0 ≡ bit (meets base m kc p)) b p
         (λ c g. get_d_sets_before flag b (tabulate (λ i. bit (like want kc b i)) k) 0 p c ∙ f.flags p c)
         (λ i e g.
         let il : i < k = omega arith in

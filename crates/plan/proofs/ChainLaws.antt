@@ -14,8 +14,7 @@ use Rattle.rules.specs.declared.Finding.TheVariants.{Fine, Ground}
 use Rattle.rules.specs.Plan.{Entry, entry, leads, chain, chain_from, only, is_range, is_pilot}
 use Rattle.rules.specs.Bands.{any, covers}
 use Rattle.rules.specs.Grounds.{◌else◌, bad_length, record_grounds, chain_grounds}
-use Rattle.counting.proofs.Laws.{bit_le}
-use Rattle.ranges.specs.Reach.{begun, hit, Table, Flags}
+use Rattle.ranges.specs.Reach.{hit, Table, Flags}
 use Rattle.records.specs.Read.{found_at}
 use Rattle.records.proofs.RecordLaws.{fine_few, fine_next, length_fine}
 use Rattle.chains.specs.Last.{last_of, last_index}
@@ -70,7 +69,6 @@ module _ {d : Device} {s : List ℕ} {r np m : ℕ} {reach hot pil rec reach' ho
     finding = w.finding ∙ ap (λ (g : Finding). g else chain_grounds d r (np + bit (is_pilot e)) es) f ∙ ap (λ (x : ℕ). chain_grounds d r x es) (sym t.more);
     table = t.noted.table;
     flags = t.noted.flags;
-    begins = omega (arith, w.begins, t.noted.more, bit_le (is_range e));
     covered = λ k l.
         w.covered k l ∙ ap (λ (b : Bool). hit reach k || b) (any_range e es k) ∙ sym (or_assoc (hit reach k) _ _)
         ∙ ap (λ (b : Bool). b || any (covers k) (only is_range es)) (sym (t.noted.hits k l));
@@ -134,22 +132,11 @@ pub found_some : (g : ℕ) {i place : ℕ} → i ≡ place → (g ≡ 0 → ⊥)
 found_some zero eq ne = absurd (ne refl)
 found_some (suc g) eq ne = ap (Ground (suc g)) eq
 
--- a chain has no more records than steps
-chain_short : (s : List ℕ) (r n i : ℕ) → length (chain_from s r n i) ≤ n
-unfolding chain_from
-chain_short s r zero i = omega arith
-chain_short s r (suc n) i = go (leads r i (entry s i).next) (chain_short s r n (entry s i).next)
-  where
-    go : (t : Bool) → length (chain_from s r n (entry s i).next) ≤ n
-        → length {A = Entry} (entry s i ∷ elim t [ true ↦ chain_from s r n (entry s i).next | false ↦ [] ]) ≤ suc n
-    go true h = omega arith
-    go false h = omega arith
-
 -- the walk begins at record 0, with empty tables
-pub kept_start : {d : Device} {s reach hot pil rec : List ℕ} → Table reach d.subcarriers → Flags reach hot → begun reach d.subcarriers ≡ 0 → ((k : ℕ) → hit reach k ≡ false) → length pil ≡ 128 → length rec ≡ 128
+pub kept_start : {d : Device} {s reach hot pil rec : List ℕ} → Table reach d.subcarriers → Flags reach hot → ((k : ℕ) → hit reach k ≡ false) → length pil ≡ 128 → length rec ≡ 128
     → bad_length s ≡ false → Kept d s (length s / 8) 0 0 reach hot pil rec
 unfolding chain last_index
-kept_start {d} {s} {reach} t f none z lp lr good = record {
+kept_start {d} {s} {reach} t f z lp lr good = record {
   here = omega (arith, (length_fine s good).some);
   steps = length s / 8;
   enough = omega arith;
@@ -157,7 +144,6 @@ kept_start {d} {s} {reach} t f none z lp lr good = record {
     finding = refl;
     table = t;
     flags = f;
-    begins = omega (arith, none, chain_short s (length s / 8) (length s / 8) 0);
     covered = λ k w. sym (ap (λ (b : Bool). b || any (covers k) (only is_range (chain s))) (z k));
     nums = refl;
     recs = refl;

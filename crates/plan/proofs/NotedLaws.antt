@@ -17,8 +17,8 @@ use Rattle.rules.specs.Plan.{Entry, number, entry, leads, chain, chain_from, onl
 use Rattle.rules.specs.Bands.{any, excluded}
 use Rattle.rules.specs.Grounds.{◌else◌, ground?, bad_length, pilots_max, record_grounds, chain_grounds, grounds1to5}
 use Rattle.ranges.specs.Reach.{hit}
-use Rattle.rules.proofs.Findings.{both_fine, when_fine}
-use Rattle.records.proofs.RecordLaws.{Sized, length_fine, fine_first, fine_plc, fine_depth, fine_few, fine_pilot}
+use Rattle.rules.proofs.Findings.{both_fine}
+use Rattle.records.proofs.RecordLaws.{length_fine, fine_first, fine_plc, fine_depth, fine_few, fine_pilot}
 use Rattle.plan.specs.Noted.{Noted}
 use Rattle.plan.specs.Walk.{Left}
 
@@ -30,13 +30,6 @@ bad_length_lem d s e = sym (ap (λ (b : Bool). ground? 1 (when b 0) else chain_g
 pub good_length : (d : Device) (s : List ℕ) {g : Finding} → bad_length s ≡ false → chain_grounds d (length s / 8) 0 (chain s) ≡ g → g ≡ grounds1to5 d s
 unfolding grounds1to5
 good_length d s e h = sym (ap (λ (b : Bool). ground? 1 (when b 0) else chain_grounds d (length s / 8) 0 (chain s)) e ∙ h)
-
--- what ground 1 leaves
-pub fine_sized : (d : Device) (s : List ℕ) → grounds1to5 d s ≡ Fine → Sized s
-unfolding grounds1to5
-fine_sized d s f =
-    length_fine s
-    (when_fine 1 0 (bad_length s) (both_fine (ground? 1 (when (bad_length s) 0)) (chain_grounds d (length s / 8) 0 (chain s)) f).0)
 
 module _ (d : Device) where
   -- record 0 of a chain with no ground is of kind 1, and no ground holds in it
@@ -106,7 +99,6 @@ module _ (d : Device) where
           long = size.some;
           table = w.table;
           flags = w.flags;
-          begins = omega (arith, w.begins);
           covered = λ k l. sym (w.covered k l ∙ or_false (hit reach k));
           nums = nums;
           recs = w.recs ∙ append-nil (take np rec);

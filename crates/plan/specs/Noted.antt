@@ -1,11 +1,11 @@
 -- What the walk along the chain answers, and what the tables hold after it. Assumes nothing.
-use Rattle.std.specs.Prelude.{◌≡◌, List, map, ℕ, ◌/◌, ◌<◌, ◌≤◌, length, get_or, take}
+use Rattle.std.specs.Prelude.{◌≡◌, List, map, ℕ, ◌<◌, ◌≤◌, length, get_or, take}
 use Rattle.rules.specs.declared.Device.{Device}
 use Rattle.rules.specs.declared.Finding.{Finding}
 use Rattle.rules.specs.declared.Finding.TheVariants.{Fine, Ground}
 use Rattle.rules.specs.Plan.{Entry, plan_of}
 use Rattle.rules.specs.Bands.{excluded}
-use Rattle.ranges.specs.Reach.{begun, hit, Table, Flags}
+use Rattle.ranges.specs.Reach.{hit, Table, Flags}
 use Rattle.chains.specs.Last.{last_index}
 use Rattle.plan.specs.declared.Chain.{Chain}
 use Rattle.plan.specs.declared.Chain.TheVariants.{Good, Bad}
@@ -19,7 +19,6 @@ pub record Noted (d : Device) (s : List ℕ) (np : ℕ) (reach hot pil rec : Lis
   pub long : 8 ≤ length s
   pub table : Table reach d.subcarriers
   pub flags : Flags reach hot
-  pub begins : begun reach d.subcarriers ≤ length s / 8
   pub covered : (k : ℕ) → k < d.subcarriers → hit reach k ≡ excluded (plan_of s) k
   pub nums : map (λ (e : Entry). e.low) (plan_of s).pilots ≡ take np pil
   pub recs : map (λ (e : Entry). e.index) (plan_of s).pilots ≡ take np rec

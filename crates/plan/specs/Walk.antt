@@ -5,7 +5,7 @@ use Rattle.rules.specs.declared.Device.{Device}
 use Rattle.rules.specs.Plan.{Entry, chain, chain_from, only, is_range, is_pilot}
 use Rattle.rules.specs.Bands.{any, covers}
 use Rattle.rules.specs.Grounds.{chain_grounds, pilots_max}
-use Rattle.ranges.specs.Reach.{begun, hit, Table, Flags, NotedIf}
+use Rattle.ranges.specs.Reach.{hit, Table, Flags, NotedIf}
 use Rattle.chains.specs.Last.{last_of, last_index}
 
 -- the grounds before the entries es of the chain do not hold, and the ranges and np pilots before es are in the tables
@@ -13,7 +13,6 @@ pub record Left (d : Device) (s : List ℕ) (r np : ℕ) (reach hot pil rec : Li
   pub finding : chain_grounds d r 0 (chain s) ≡ chain_grounds d r np es
   pub table : Table reach d.subcarriers
   pub flags : Flags reach hot
-  pub begins : begun reach d.subcarriers + length es ≤ r
   pub covered : (k : ℕ) → k < d.subcarriers → any (covers k) (only is_range (chain s)) ≡ (hit reach k || any (covers k) (only is_range es))
   pub nums : map (λ (e : Entry). e.low) (only is_pilot (chain s)) ≡ take np pil ++ map (λ (e : Entry). e.low) (only is_pilot es)
   pub recs : map (λ (e : Entry). e.index) (only is_pilot (chain s)) ≡ take np rec ++ map (λ (e : Entry). e.index) (only is_pilot es)

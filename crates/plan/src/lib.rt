@@ -3,7 +3,7 @@
 // `pil`, and their indices into `rec`. The walk starts at record 0, or goes on at a later one with the tables of those before it.
 ghost use Rattle.std.specs.Prelude.{◌≡◌, true, false, length, ◌+◌, ◌/◌, ◌≤◌, ◌<◌};
 ghost use Rattle.counting.specs.Search.{bit};
-ghost use Rattle.rules.specs.Fits.{Fits, capacity};
+ghost use Rattle.rules.specs.Fits.{Fits};
 ghost use Rattle.rules.specs.Plan.{is_range};
 ghost use Rattle.rules.specs.Grounds.{bad_length, grounds1to5, pilots_max};
 ghost use Rattle.ranges.specs.Reach.{Table, Flags};
@@ -11,10 +11,10 @@ ghost use Rattle.records.specs.Read.{entry_of, Narrow};
 ghost use Rattle.plan.specs.Noted.{finding_of, Filled};
 ghost use Rattle.plan.specs.Walk.{PutIf, Taken, Kept};
 
-use ranges::{BLOCKS, note_if};
+use ranges::note_if;
 use recordgrounds::record_ground;
 use records::{Record, bad_length, record_at};
-use rules::{CAPACITY, Device};
+use rules::Device;
 
 // A good chain with so many pilots and the index of its last record, or the number and place of the first ground.
 #[derive(Drop)]
@@ -51,12 +51,12 @@ fn take_record(
     size: usize,
     np: usize,
     e: Record,
-    reach: &mut [u16; CAPACITY],
-    hot: &mut [u8; BLOCKS],
+    reach: &mut [u16; 4096],
+    hot: &mut [u8; 256],
     pil: &mut [u16; 128],
     rec: &mut [u16; 128],
 ) -> usize
-    requires { Table reach.old size × Flags reach.old hot.old × (size ≤ capacity) × (is_range (entry_of e) ≡ true → (e.low < e.high + 1) × (e.high + 1 ≤ size)) × Narrow (entry_of e) × (np ≤ pilots_max) × (length pil.old ≡ 128) × (length rec.old ≡ 128) }
+    requires { Table reach.old size × Flags reach.old hot.old × (size ≤ 4096) × (is_range (entry_of e) ≡ true → (e.low < e.high + 1) × (e.high + 1 ≤ size)) × Narrow (entry_of e) × (np ≤ pilots_max) × (length pil.old ≡ 128) × (length rec.old ≡ 128) }
     ensures { Taken size (entry_of e) np result reach.old pil.old rec.old reach.new hot.new pil.new rec.new }
 {
     note_if(e.kind == 2, e.low, e.high + 1, size, reach, hot);
@@ -72,8 +72,8 @@ pub fn walk_chain(
     plan: &[u8],
     from: usize,
     before: usize,
-    reach: &mut [u16; CAPACITY],
-    hot: &mut [u8; BLOCKS],
+    reach: &mut [u16; 4096],
+    hot: &mut [u8; 256],
     pil: &mut [u16; 128],
     rec: &mut [u16; 128],
 ) -> Chain

@@ -1,19 +1,17 @@
 -- A range noted in a table of ends. Assumes nothing.
 use mathlib.Core.Path.{◌≡◌, refl, sym, ap, ◌∙◌, subst}
-use mathlib.Core.Bool.{Bool, true, false, not, ◌&&◌, ◌||◌}
+use mathlib.Core.Bool.{Bool, true, false, ◌&&◌, ◌||◌}
 use mathlib.Core.Logic.{◌⊎◌, inl, inr}
 use mathlib.Core.List.{List}
 use Prim.Native.Nat.{ℕ, zero, suc, ◌+◌, ◌*◌, ◌/◌, ◌<◌, ◌≤◌, max}
 use native.Mathlib.Omega.{arith}
-use lib.Dec.{ltb, leb, eqb}
+use lib.Dec.{ltb, leb}
 use lib.ListN.{length, get_or, set, length-set, replicate, length-replicate}
 use lib.Seq.{set-get_or, get_or-set_same, get_or-set_other}
 use borrow.Author.Tests.{lt-ltb, le-ltb, le-leb, lt-leb}
 use Rattle.counting.proofs.Bools.{Less, decide, Same, decide_eq, or_false}
-use Rattle.counting.proofs.Laws.{count_ext, count_false, count_other}
 use Rattle.counting.proofs.Lists.{zeros}
-use Rattle.rules.specs.Fits.{capacity}
-use Rattle.ranges.specs.Reach.{blocks_max, noted, begun, far, hit, Table, Flags, NotedIf}
+use Rattle.ranges.specs.Reach.{noted, far, hit, Table, Flags, NotedIf}
 
 abbrev up_to : Bool → ℕ → ℕ
 up_to true v = v
@@ -81,7 +79,7 @@ table_noted size r f e t l top = record {
     fits k (inl (q, _)) = rw (q, same) (omega (arith, t.fits f))
     fits k (inr (ne, _)) = rw (get_or-set_other r f k (max (get_or r f 0) e) 0 ne) (t.fits k)
 
-flags_noted : (r hot : List ℕ) (f e : ℕ) → Flags r hot → f < capacity → Flags (noted r f e) (set hot (f / 16) 1)
+flags_noted : (r hot : List ℕ) (f e : ℕ) → Flags r hot → f < 4096 → Flags (noted r f e) (set hot (f / 16) 1)
 unfolding noted
 flags_noted r hot f e w l = record {
   many = length-set hot (f / 16) 1 ∙ w.many;
@@ -96,28 +94,21 @@ flags_noted r hot f e w l = record {
         let other : k ≡ f → ⊥ = λ g. ne (omega arith) in
         get_or-set_other r f k (max (get_or r f 0) e) 0 other ∙ w.idle b (sym (get_or-set_other hot (f / 16) b 1 0 ne) ∙ z) k u v
 
--- a note makes ranges begin at one more number at most
-begun_noted : (r : List ℕ) (f e n : ℕ) → begun (noted r f e) n ≤ begun r n + 1
-unfolding begun noted
-begun_noted r f e n =
-    count_other (λ k. not (eqb (get_or (set r f (max (get_or r f 0) e)) k 0) 0)) (λ k. not (eqb (get_or r k 0) 0)) f n
-    (λ k ne. ap (λ (x : ℕ). not (eqb x 0)) (get_or-set_other r f k (max (get_or r f 0) e) 0 ne))
-
 -- the three ways of the code
 module _ (size low end : ℕ) (r hot : List ℕ) (t : Table r size) (f : Flags r hot) where
   pub note_none : NotedIf false size low end r r hot
-  note_none = record { table = t; flags = f; hits = λ k l. sym (or_false (hit r k)); more = omega arith }
+  note_none = record { table = t; flags = f; hits = λ k l. sym (or_false (hit r k)) }
 
-  note_any : size ≤ capacity → low < end → end ≤ size → NotedIf true size low end r (noted r low end) (set hot (low / 16) 1)
-  note_any few l top = record { table = table_noted size r low end t l top; flags = flags_noted r hot low end f (omega arith); hits = λ k w. hit_noted r low end k (omega (arith, t.long)); more = begun_noted r low end size }
+  note_any : size ≤ 4096 → low < end → end ≤ size → NotedIf true size low end r (noted r low end) (set hot (low / 16) 1)
+  note_any few l top = record { table = table_noted size r low end t l top; flags = flags_noted r hot low end f (omega arith); hits = λ k w. hit_noted r low end k (omega (arith, t.long)) }
 
-  pub note_keep : size ≤ capacity → low < end → end ≤ size → end ≤ get_or r low 0 → NotedIf true size low end r r (set hot (low / 16) 1)
+  pub note_keep : size ≤ 4096 → low < end → end ≤ size → end ≤ get_or r low 0 → NotedIf true size low end r r (set hot (low / 16) 1)
   unfolding noted
   note_keep few l top h =
       let e : max (get_or r low 0) end ≡ get_or r low 0 = omega arith in
       subst (λ (x : List ℕ). NotedIf true size low end r x (set hot (low / 16) 1)) (ap (set r low) e ∙ set-get_or r low 0) (note_any few l top)
 
-  pub note_store : size ≤ capacity → low < end → end ≤ size → get_or r low 0 < end → NotedIf true size low end r (set r low end) (set hot (low / 16) 1)
+  pub note_store : size ≤ 4096 → low < end → end ≤ size → get_or r low 0 < end → NotedIf true size low end r (set r low end) (set hot (low / 16) 1)
   unfolding noted
   note_store few l top h =
       let e : max (get_or r low 0) end ≡ end = omega arith in
@@ -127,12 +118,8 @@ module _ (size low end : ℕ) (r hot : List ℕ) (t : Table r size) (f : Flags r
 pub table_zero : (n size : ℕ) → size ≤ n → Table (replicate n 0) size
 table_zero n size l = record { long = omega (arith, length-replicate {A = ℕ} n 0); past = λ k. inl (zeros n k); fits = λ k. omega (arith, zeros n k) }
 
-pub flags_zero : (n : ℕ) (hot : List ℕ) → length hot ≡ blocks_max → Flags (replicate n 0) hot
+pub flags_zero : (n : ℕ) (hot : List ℕ) → length hot ≡ 256 → Flags (replicate n 0) hot
 flags_zero n hot l = record { many = l; idle = λ b z k u v. zeros n k }
-
-pub begun_zero : (m n : ℕ) → begun (replicate m 0) n ≡ 0
-unfolding begun
-begun_zero m n = count_ext _ (λ k. false) n (λ k l. ap (λ (x : ℕ). not (eqb x 0)) (zeros m k)) ∙ count_false n
 
 far_zero : (m n : ℕ) → ◌≡◌ {A = ℕ} (far (replicate m 0) n) 0
 unfolding far

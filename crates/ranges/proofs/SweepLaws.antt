@@ -1,23 +1,20 @@
 -- The runs of a table of ends, found by one sweep. Assumes nothing.
 use mathlib.Core.Path.{◌≡◌, refl, ap, ◌∙◌, subst}
 use mathlib.Core.Logic.{◌⊎◌, inl, inr}
-use mathlib.Core.Bool.{Bool, true, false, not}
+use mathlib.Core.Bool.{true, false}
 use mathlib.Core.List.{List}
 use Prim.Native.Nat.{ℕ, zero, suc, ◌+◌, ◌-◌, ◌≤◌, ◌<◌, max}
 use native.Mathlib.Nat.{le_refl, le-suc, le_trans}
 use native.Mathlib.Numerals.{add-one}
 use native.Mathlib.Omega.{arith}
 use native.Mathlib.Decide.{le_ind}
-use lib.Dec.{eqb}
 use lib.ListN.{length, get_or, set}
 use lib.Seq.{get_or-set_same, get_or-set_other}
-use borrow.Author.Tests.{lt-ltb, le-ltb, ne_eqb}
-use Rattle.counting.specs.Search.{bit, count}
+use borrow.Author.Tests.{lt-ltb, le-ltb}
 use Rattle.counting.specs.Runs.{Run, Runs, before}
-use Rattle.ranges.specs.Reach.{begun, far, hit, Table}
+use Rattle.ranges.specs.Reach.{far, hit, Table}
 use Rattle.ranges.specs.Swept.{Sweep, Closed}
 use Rattle.counting.proofs.Bools.{Less, decide}
-use Rattle.counting.proofs.Laws.{count_step}
 
 far_up : (r : List ℕ) (m n : ℕ) → m ≤ n → far r m ≤ far r n
 unfolding far
@@ -31,18 +28,6 @@ far_fits r size f (suc n) = omega (arith, far_fits r size f n, f n)
 far_next : (r : List ℕ) (k : ℕ) → far r (k + 1) ≡ max (far r k) (get_or r k 0)
 unfolding far
 far_next r k = ap (far r) (add-one k)
-
--- ranges begin at no more numbers among fewer
-begun_next : (r : List ℕ) (k : ℕ) → begun r k ≤ begun r (k + 1)
-unfolding begun
-begun_next r k = omega (arith, count_step (λ j. not (eqb (get_or r j 0) 0)) k)
-
-begun_here : (r : List ℕ) (k : ℕ) → (get_or r k 0 ≡ 0 → ⊥) → begun r (k + 1) ≡ begun r k + 1
-unfolding begun
-begun_here r k ne = count_step (λ j. not (eqb (get_or r j 0) 0)) k ∙ ap (λ (b : Bool). count (λ j. not (eqb (get_or r j 0) 0)) k + bit (not b)) (ne_eqb (get_or r k 0) 0 ne)
-
-pub begun_up : (r : List ℕ) (k n : ℕ) → k ≤ n → begun r k ≤ begun r n
-begun_up r k n l = le_ind (λ (j : ℕ). begun r k ≤ begun r j) (le_refl (begun r k)) (λ j w h. omega (arith, ap (begun r) (add-one j), begun_next r j)) n l
 
 hit_below : (r : List ℕ) (j k : ℕ) → k ≤ suc j → j < far r k → hit r j ≡ true
 unfolding hit
@@ -65,8 +50,7 @@ module _ (r : List ℕ) (size : ℕ) (t : Table r size) where
     sep = λ l. absurd (omega arith);
     gap = λ j l w. absurd (omega arith);
     all = λ j l w. absurd (omega arith);
-    few = omega arith;
-    one_more = λ l. absurd (omega arith);
+    many = omega arith;
     fresh = λ l. (refl, refl);
     top = omega arith;
   }
@@ -79,26 +63,21 @@ module _ (r : List ℕ) (size : ℕ) (t : Table r size) where
     sep = w.sep;
     gap = w.gap;
     all = λ j l b. go h j l b (decide j e);
-    few = omega (arith, w.few, begun_next r k);
-    one_more = λ l. more l (decide s e);
+    many = w.many;
     fresh = λ l. w.fresh (omega arith);
     top = omega (arith, w.top, t.fits k);
   }
     where
-      more : s < q → Less s e → suc n ≤ begun r (k + 1)
-      more l (inl (m, _)) = omega (arith, w.one_more m, begun_next r k)
-      more l (inr (m, _)) = omega (arith, (w.fresh m).0, begun_here r k (λ z. omega arith))
-
       go : (get_or r k 0 ≡ 0) ⊎ (k ≤ e) → (j : ℕ) → s ≤ j → j < q → Less j e → hit r j ≡ true
       go _ j l b (inl (m, _)) = w.all j l m
       go (inl z) j l b (inr (m, _)) = absurd (omega arith)
       go (inr z) j l b (inr (m, _)) = hit_below r j (k + 1) (omega arith) (omega (arith, far_next r k))
 
-  pub close_some : (lo hi : List ℕ) (n s e k : ℕ) → Sweep r size lo hi n s e k → s < e → n < length lo → n < length hi → Closed r size (set lo n s) (set hi n e) (n + 1) e k
+  pub close_some : (lo hi : List ℕ) (n s e k : ℕ) → Sweep r size lo hi n s e k → s < e → n < length lo → n < length hi → Closed r size (set lo n s) (set hi n e) (n + 1) e
   close_some lo hi n s e k w l la lb = record {
     runs = λ i h. go i h (decide i n);
     last = ap (before (set hi n e)) (add-one n) ∙ hi_new;
-    few = omega (arith, w.one_more l);
+    many = omega (arith, w.many);
   }
     where
       lo_new : get_or (set lo n s) n 0 ≡ s
@@ -135,26 +114,25 @@ module _ (r : List ℕ) (size : ℕ) (t : Table r size) where
       go i h (inl (g, _)) = old i g (w.runs i g)
       go i h (inr (g, _)) = let same : n ≡ i = omega arith in subst (Run (hit r) size (set lo n s) (set hi n e)) same new
 
-  pub close_none : (lo hi : List ℕ) (n s e k : ℕ) → Sweep r size lo hi n s e k → e ≤ s → Closed r size lo hi n e k
+  pub close_none : (lo hi : List ℕ) (n s e k : ℕ) → Sweep r size lo hi n s e k → e ≤ s → Closed r size lo hi n e
   close_none lo hi n s e k w l =
       let z = w.fresh l in
-      record { runs = w.runs; last = ap (before hi) z.0 ∙ omega (arith, z.1); few = w.few }
+      record { runs = w.runs; last = ap (before hi) z.0 ∙ omega (arith, z.1); many = omega (arith, z.0) }
 
   -- a run begins at k, past the end of the last
-  pub sweep_new : (lo hi : List ℕ) (n e k q : ℕ) → Closed r size lo hi n e k → far r k ≡ e → e < k → q ≡ get_or r k 0 → k < q → Sweep r size lo hi n k q (k + 1)
+  pub sweep_new : (lo hi : List ℕ) (n e k q : ℕ) → Closed r size lo hi n e → far r k ≡ e → e < k → q ≡ get_or r k 0 → k < q → Sweep r size lo hi n k q (k + 1)
   sweep_new lo hi n e k q w f l is g = record {
     upto = far_next r k ∙ omega arith;
     runs = w.runs;
     sep = λ _. omega (arith, w.last);
     gap = λ j a b. no_hit r j k b (omega (arith, w.last));
     all = λ j a b. hit_below r j (k + 1) (omega arith) (omega (arith, far_next r k));
-    few = omega (arith, w.few, begun_next r k);
-    one_more = λ _. omega (arith, w.few, begun_here r k (λ z. omega arith));
+    many = omega (arith, w.many);
     fresh = λ h. absurd (omega arith);
     top = omega (arith, t.fits k);
   }
 
-  pub sweep_end : (lo hi : List ℕ) (n e : ℕ) → Closed r size lo hi n e size → far r size ≡ e → Runs (hit r) size lo hi n
+  pub sweep_end : (lo hi : List ℕ) (n e : ℕ) → Closed r size lo hi n e → far r size ≡ e → Runs (hit r) size lo hi n
   sweep_end lo hi n e w f = record { each = w.runs; last = λ j a b. no_hit r j size b (omega (arith, w.last)) }
 
   -- a block with no first number

@@ -1,13 +1,5 @@
 -- Ranges noted at their first numbers: for each first number the farthest end. Assumes nothing.
-use Rattle.std.specs.Prelude.{◌≡◌, Bool, not, ◌&&◌, ◌||◌, ◌⊎◌, List, ℕ, zero, suc, ◌+◌, ◌*◌, ◌<◌, ◌≤◌, max, leb, ltb, eqb, length, get_or, set}
-use Rattle.counting.specs.Search.{bit, count}
-
--- the flags of blocks, and the places for runs
-abbrev pub blocks_max : ℕ
-blocks_max = 512
-
-abbrev pub runs_max : ℕ
-runs_max = 512
+use Rattle.std.specs.Prelude.{◌≡◌, Bool, ◌&&◌, ◌||◌, ◌⊎◌, List, ℕ, zero, suc, ◌+◌, ◌*◌, ◌<◌, ◌≤◌, max, leb, ltb, length, get_or, set}
 
 -- a range f to e - 1 noted
 unfoldable pub noted : List ℕ → ℕ → ℕ → List ℕ
@@ -17,10 +9,6 @@ noted r f e = set r f (max (get_or r f 0) e)
 unfoldable pub far : List ℕ → ℕ → ℕ
 far r zero = 0
 far r (suc n) = max (far r n) (get_or r n 0)
-
--- at how many numbers below n noted ranges begin
-unfoldable pub begun : List ℕ → ℕ → ℕ
-begun r n = count (λ k. not (eqb (get_or r k 0) 0)) n
 
 -- k is in a noted range
 unfoldable pub hit : List ℕ → ℕ → Bool
@@ -34,7 +22,7 @@ pub record Table (r : List ℕ) (size : ℕ) : Type 0 where
 
 -- flags of blocks of 16: a block without its flag has no range that begins in it
 pub record Flags (r hot : List ℕ) : Type 0 where
-  pub many : length hot ≡ blocks_max
+  pub many : length hot ≡ 256
   pub idle : (b : ℕ) → get_or hot b 0 ≡ 0 → (k : ℕ) → 16 * b ≤ k → k < 16 * b + 16 → get_or r k 0 ≡ 0
 
 -- the range low to end - 1 noted, if the test holds
@@ -42,4 +30,3 @@ pub record NotedIf (t : Bool) (size low end : ℕ) (old reach hot : List ℕ) : 
   pub table : Table reach size
   pub flags : Flags reach hot
   pub hits : (k : ℕ) → k < size → hit reach k ≡ (hit old k || (t && (leb low k && ltb k end)))
-  pub more : begun reach size ≤ begun old size + bit t

@@ -1,7 +1,7 @@
 -- What a sweep over a table of ends keeps while it writes the runs. Assumes nothing.
-use Rattle.std.specs.Prelude.{◌≡◌, List, ℕ, suc, ◌<◌, ◌≤◌}
+use Rattle.std.specs.Prelude.{◌≡◌, List, ℕ, ◌+◌, ◌*◌, ◌<◌, ◌≤◌}
 use Rattle.counting.specs.Runs.{All, None, Run, before}
-use Rattle.ranges.specs.Reach.{begun, far, hit}
+use Rattle.ranges.specs.Reach.{far, hit}
 
 -- k first numbers are passed, n runs are written, and s to e - 1 is the run that may still grow
 pub record Sweep (r : List ℕ) (size : ℕ) (lo hi : List ℕ) (n s e k : ℕ) : Type 0 where
@@ -10,13 +10,12 @@ pub record Sweep (r : List ℕ) (size : ℕ) (lo hi : List ℕ) (n s e k : ℕ) 
   pub sep : 0 < n → before hi n < s
   pub gap : None (hit r) (before hi n) s
   pub all : All (hit r) s e
-  pub few : n ≤ begun r k
-  pub one_more : s < e → suc n ≤ begun r k
+  pub many : 2 * n ≤ s
   pub fresh : e ≤ s → (n ≡ 0) × (s ≡ 0)
   pub top : e ≤ size
 
--- k first numbers are passed, and all runs are written; the last one ends at e
-pub record Closed (r : List ℕ) (size : ℕ) (lo hi : List ℕ) (n e k : ℕ) : Type 0 where
+-- all runs are written, the last one ends at e
+pub record Closed (r : List ℕ) (size : ℕ) (lo hi : List ℕ) (n e : ℕ) : Type 0 where
   pub runs : (i : ℕ) → i < n → Run (hit r) size lo hi i
   pub last : before hi n ≡ e
-  pub few : n ≤ begun r k
+  pub many : 2 * n ≤ e + 1

@@ -1,20 +1,12 @@
 // Ranges noted in a table and swept into runs, in one pass whatever the ranges' number and overlaps.
 // `reach[first]` is one past the farthest end of the ranges that begin at `first`, 0 if none does; `hot` flags blocks of 16.
-// Numbers lie below `size`, at most CAPACITY; ranges begin at no more than RUNS of them.
+// Numbers lie below `size`, at most 4,096.
 ghost use Rattle.std.specs.Prelude.{◌≡◌, true, length, ◌+◌, ◌*◌, ◌%◌, ◌≤◌, ◌<◌};
 ghost use Rattle.counting.specs.Runs.{Runs};
-ghost use Rattle.ranges.specs.Reach.{runs_max, begun, hit, Table, Flags, NotedIf};
+ghost use Rattle.ranges.specs.Reach.{hit, Table, Flags, NotedIf};
 ghost use Rattle.ranges.specs.Swept.{Sweep, Closed};
-ghost use Rattle.rules.specs.Fits.{capacity};
 
 use counting::wide;
-use rules::CAPACITY;
-
-// A block for each 16 numbers.
-pub const BLOCKS: usize = 512;
-
-// The places for runs: a plan has at most so many records, and so many ranges.
-pub const RUNS: usize = 512;
 
 // The range low to end - 1 noted, if `on`.
 pub fn note_if(
@@ -22,10 +14,10 @@ pub fn note_if(
     low: usize,
     end: usize,
     size: usize,
-    reach: &mut [u16; CAPACITY],
-    hot: &mut [u8; BLOCKS],
+    reach: &mut [u16; 4096],
+    hot: &mut [u8; 256],
 )
-    requires { Table reach.old size × Flags reach.old hot.old × (size ≤ capacity) × (on ≡ true → (low < end) × (end ≤ size)) }
+    requires { Table reach.old size × Flags reach.old hot.old × (size ≤ 4096) × (on ≡ true → (low < end) × (end ≤ size)) }
     ensures { NotedIf on size low end reach.old reach.new hot.new }
 {
     if !on {
@@ -49,17 +41,17 @@ struct Open {
 
 // The run that may still grow is written.
 fn close(
-    reach: &[u16; CAPACITY],
+    reach: &[u16; 4096],
     size: usize,
     k: usize,
-    lo: &mut [u16; RUNS],
-    hi: &mut [u16; RUNS],
+    lo: &mut [u16; 2048],
+    hi: &mut [u16; 2048],
     n: usize,
     s: usize,
     e: usize,
 ) -> usize
-    requires { Table reach.now size × Sweep reach.now size lo.old hi.old n s e k × (length lo.old ≡ runs_max) × (length hi.old ≡ runs_max) × (size ≤ capacity) × (begun reach.now size ≤ runs_max) × (k ≤ size) }
-    ensures { Closed reach.now size lo.new hi.new result e k × (length lo.new ≡ runs_max) × (length hi.new ≡ runs_max) }
+    requires { Table reach.now size × Sweep reach.now size lo.old hi.old n s e k × (length lo.old ≡ 2048) × (length hi.old ≡ 2048) × (size ≤ 4096) }
+    ensures { Closed reach.now size lo.new hi.new result e × (length lo.new ≡ 2048) × (length hi.new ≡ 2048) }
 {
     if s < e {
         lo[n] = s as u16;
@@ -71,15 +63,15 @@ fn close(
 
 // One first number passed.
 fn step(
-    reach: &[u16; CAPACITY],
+    reach: &[u16; 4096],
     size: usize,
     k: usize,
-    lo: &mut [u16; RUNS],
-    hi: &mut [u16; RUNS],
+    lo: &mut [u16; 2048],
+    hi: &mut [u16; 2048],
     o: Open,
 ) -> Open
-    requires { Table reach.now size × Sweep reach.now size lo.old hi.old o.n o.s o.e k × (length lo.old ≡ runs_max) × (length hi.old ≡ runs_max) × (size ≤ capacity) × (begun reach.now size ≤ runs_max) × (k < size) }
-    ensures { Sweep reach.now size lo.new hi.new result.n result.s result.e (k + 1) × (length lo.new ≡ runs_max) × (length hi.new ≡ runs_max) }
+    requires { Table reach.now size × Sweep reach.now size lo.old hi.old o.n o.s o.e k × (length lo.old ≡ 2048) × (length hi.old ≡ 2048) × (size ≤ 4096) × (k < size) }
+    ensures { Sweep reach.now size lo.new hi.new result.n result.s result.e (k + 1) × (length lo.new ≡ 2048) × (length hi.new ≡ 2048) }
 {
     let q = wide(reach[k]);
     if q == 0 {
@@ -100,15 +92,15 @@ fn step(
 
 // A block of 16 first numbers passed.
 fn block(
-    reach: &[u16; CAPACITY],
+    reach: &[u16; 4096],
     size: usize,
     from: usize,
-    lo: &mut [u16; RUNS],
-    hi: &mut [u16; RUNS],
+    lo: &mut [u16; 2048],
+    hi: &mut [u16; 2048],
     o: Open,
 ) -> Open
-    requires { Table reach.now size × Sweep reach.now size lo.old hi.old o.n o.s o.e from × (length lo.old ≡ runs_max) × (length hi.old ≡ runs_max) × (size ≤ capacity) × (begun reach.now size ≤ runs_max) × (from + 16 ≤ size) }
-    ensures { Sweep reach.now size lo.new hi.new result.n result.s result.e (from + 16) × (length lo.new ≡ runs_max) × (length hi.new ≡ runs_max) }
+    requires { Table reach.now size × Sweep reach.now size lo.old hi.old o.n o.s o.e from × (length lo.old ≡ 2048) × (length hi.old ≡ 2048) × (size ≤ 4096) × (from + 16 ≤ size) }
+    ensures { Sweep reach.now size lo.new hi.new result.n result.s result.e (from + 16) × (length lo.new ≡ 2048) × (length hi.new ≡ 2048) }
 {
     let mut p = o;
     let mut k = from;
@@ -121,14 +113,14 @@ fn block(
 
 // The runs of what the noted ranges cover: run i is lo[i] to hi[i] - 1. The answer is how many there are.
 pub fn runs(
-    reach: &[u16; CAPACITY],
-    hot: &[u8; BLOCKS],
+    reach: &[u16; 4096],
+    hot: &[u8; 256],
     size: usize,
-    lo: &mut [u16; RUNS],
-    hi: &mut [u16; RUNS],
+    lo: &mut [u16; 2048],
+    hi: &mut [u16; 2048],
 ) -> usize
-    requires { Table reach.now size × Flags reach.now hot.now × (length lo.old ≡ runs_max) × (length hi.old ≡ runs_max) × (size ≤ capacity) × (begun reach.now size ≤ runs_max) × (size % 16 ≡ 0) }
-    ensures { Runs (hit reach.now) size lo.new hi.new result × (result ≤ runs_max) × (length lo.new ≡ runs_max) × (length hi.new ≡ runs_max) }
+    requires { Table reach.now size × Flags reach.now hot.now × (length lo.old ≡ 2048) × (length hi.old ≡ 2048) × (size ≤ 4096) × (size % 16 ≡ 0) }
+    ensures { Runs (hit reach.now) size lo.new hi.new result × (result ≤ 2048) × (length lo.new ≡ 2048) × (length hi.new ≡ 2048) }
 {
     let mut o = Open { n: 0, s: 0, e: 0 };
     let mut b: usize = 0;

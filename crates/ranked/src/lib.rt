@@ -5,15 +5,15 @@ ghost use Rattle.counting.specs.Search.{bit, count, is_zero};
 ghost use Rattle.rules.specs.Plan.{plan_of};
 ghost use Rattle.rules.specs.Roles.{ranked_count};
 ghost use Rattle.rules.specs.Grounds.{answer};
-ghost use Rattle.rules.specs.Fits.{Fits, capacity};
+ghost use Rattle.rules.specs.Fits.{Fits};
 ghost use Rattle.marks.specs.Marked.{Marked};
 ghost use Rattle.ranked.specs.Ground15.{ground15};
 
-use rules::{CAPACITY, Device, Verdict};
+use rules::{Device, Verdict};
 
 // A count of zeros with one cell more. The counter has sixteen bits so that the loop over 4,096 cells is vectorised.
 fn one_more(x: u16, n: u16) -> u16
-    requires { n ≤ capacity }
+    requires { n ≤ 4096 }
     ensures { result ≡ n + bit (eqb x 0) }
 {
     if x == 0 {
@@ -23,9 +23,9 @@ fn one_more(x: u16, n: u16) -> u16
 }
 
 // How many of the first `size` cells are 0.
-fn zeros(m: &[u16; CAPACITY], size: usize) -> usize
-    requires { size ≤ capacity }
-    ensures { (result ≡ count (is_zero m.now) size) × (result ≤ capacity) }
+fn zeros(m: &[u16; 4096], size: usize) -> usize
+    requires { size ≤ 4096 }
+    ensures { (result ≡ count (is_zero m.now) size) × (result ≤ 4096) }
 {
     let mut n: u16 = 0;
     let mut k: usize = 0;
@@ -37,7 +37,7 @@ fn zeros(m: &[u16; CAPACITY], size: usize) -> usize
 }
 
 // Ground 15, and N_I.
-pub fn ground_15(d: Device, plan: &[u8], m: &[u16; CAPACITY]) -> Verdict
+pub fn ground_15(d: Device, plan: &[u8], m: &[u16; 4096]) -> Verdict
     requires { Fits d × Marked d (plan_of plan.now) m.now }
     ensures { result ≡ answer (ground15 d (plan_of plan.now)) (ranked_count d (plan_of plan.now)) }
 {

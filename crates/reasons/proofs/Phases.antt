@@ -14,12 +14,11 @@ use Rattle.rules.specs.declared.Role.TheVariants.{Scattered, Data}
 use Rattle.rules.specs.Device.{phases}
 use Rattle.rules.specs.Plan.{plan_of}
 use Rattle.rules.specs.Roles.{scattered_at, role, ranked}
-use Rattle.rules.specs.Fits.{Fits}
 use Rattle.rules.specs.Frame.{frame_of}
 use Rattle.frame.specs.Counted.{is_scattered}
 use Rattle.facts.proofs.Framed.{by_rank}
-use Rattle.pattern.specs.Until.{phase_of}
-use Rattle.pattern.proofs.Once.{once, phase_below}
+use Rattle.pattern.specs.Until.{symbols_until}
+use Rattle.pattern.proofs.Once.{once, until_below}
 use Rattle.reasons.specs.Reasons.{scattered_phase}
 use Rattle.reasons.specs.Claims.{OnePhase}
 
@@ -27,10 +26,10 @@ scattered_test : (b : Bool) → is_scattered (pick b Scattered Data) ≡ b
 scattered_test true = refl
 scattered_test false = refl
 
-module _ (d : Device) (fits : Fits d) (s : List ℕ) (k : ℕ) (below : k < d.subcarriers) (has-rank : ranked d (plan_of s) k ≡ true) where
+module _ (d : Device) (s : List ℕ) (k : ℕ) (below : k < d.subcarriers) (has-rank : ranked d (plan_of s) k ≡ true) where
   -- as the code finds it
   abbrev pub one_phase : ℕ
-  one_phase = phase_of d.scatter_step ((plan_of s).plc + d.plc_width) k
+  one_phase = symbols_until ((plan_of s).plc + d.plc_width) k
 
   role_by : (q : ℕ) → role d (plan_of s) q k ≡ pick (scattered_at d (plan_of s) q k) Scattered Data
   unfolding frame_of
@@ -38,7 +37,7 @@ module _ (d : Device) (fits : Fits d) (s : List ℕ) (k : ℕ) (below : k < d.su
 
   pub pattern_is : (q : ℕ) → q < phases → scattered_at d (plan_of s) q k ≡ eqb q one_phase
   unfolding scattered_at
-  pattern_is q h = once d.scatter_step ((plan_of s).plc + d.plc_width) k q fits.step h
+  pattern_is q h = once ((plan_of s).plc + d.plc_width) k q h
 
   role_at : (q : ℕ) → q < phases → role d (plan_of s) q k ≡ pick (eqb q one_phase) Scattered Data
   role_at q h = role_by q ∙ ap (λ (b : Bool). pick b Scattered Data) (pattern_is q h)
@@ -47,7 +46,7 @@ module _ (d : Device) (fits : Fits d) (s : List ℕ) (k : ℕ) (below : k < d.su
   test_at q h = ap is_scattered (role_at q h) ∙ scattered_test (eqb q one_phase)
 
   one_below : one_phase < phases
-  one_below = phase_below d.scatter_step ((plan_of s).plc + d.plc_width) k fits.step
+  one_below = until_below ((plan_of s).plc + d.plc_width) k
 
   pub scattered_phase_is : scattered_phase d s k ≡ one_phase
   unfolding scattered_phase

@@ -73,12 +73,12 @@ module _ (d : Device) (fits : Fits d) (s : List ℕ) (fine : grounds1to15 d s �
 
   scattered_true : (r : ranked d p k ≡ true) → scattered_at d p j k ≡ true → OnePhase d s k j
   scattered_true r e =
-      subst (OnePhase d s k) (sym (eqb-true j (one_phase d fits s k below r) (sym (pattern_is d fits s k below r j phase) ∙ e))) (one_phase_lem d fits s k below r)
+      subst (OnePhase d s k) (sym (eqb-true j (one_phase d s k below r) (sym (pattern_is d s k below r j phase) ∙ e))) (one_phase_lem d s k below r)
 
   data_true : (r : ranked d p k ≡ true) → scattered_at d p j k ≡ false → (scattered_phase d s k ≡ j → ⊥) × OnePhase d s k (scattered_phase d s k)
   data_true r e =
-      rw (scattered_phase_is d fits s k below r)
-      (λ q. eqb-false j (one_phase d fits s k below r) (sym (pattern_is d fits s k below r j phase) ∙ e) (sym q), one_phase_lem d fits s k below r)
+      rw (scattered_phase_is d s k below r)
+      (λ q. eqb-false j (one_phase d s k below r) (sym (pattern_is d s k below r j phase) ∙ e) (sym q), one_phase_lem d s k below r)
 
   -- ---- the role
 

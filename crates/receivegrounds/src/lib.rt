@@ -16,7 +16,7 @@ ghost use Rattle.receivegrounds.specs.Stages.{late_grounds, early_answer, answer
 ghost use Rattle.receivegrounds.specs.InOrder.{Prepared};
 
 use counting::Found;
-use rules::{CAPACITY, CountAnswer, Device, Finding, ReceiverState, Verdict};
+use rules::{CountAnswer, Device, Finding, ReceiverState, Verdict};
 
 // The answer to a receive step before it touches what it is lent: refused with number and place, or admitted with the depth, N_I and the
 // number of data cells to hand out.
@@ -32,7 +32,7 @@ pub enum Admission {
 fn ready(
     d: Device,
     plan: &[u8],
-    marks: &[u16; CAPACITY],
+    marks: &[u16; 4096],
     m: usize,
     state: ReceiverState,
     places: usize,
@@ -49,7 +49,7 @@ fn ready(
     }
     let back = receiving::out_phase(state.phase, m);
     let need = places::receiver_places(m, kc.len());
-    let mut car = [0u16; CAPACITY];
+    let mut car = [0u16; 4096];
     steps::ready(
         d,
         plan,
@@ -71,7 +71,7 @@ fn ready(
 fn last_grounds(
     d: Device,
     plan: &[u8],
-    marks: &mut [u16; CAPACITY],
+    marks: &mut [u16; 4096],
     m: usize,
     n: usize,
     nd: u32,
@@ -113,7 +113,7 @@ pub fn admit(
     ensures answer { (s y b : List ℕ) → length s ≡ places → Begins symbol.now width y → length b ≡ room → result ≡ admission d plan.now (record { state = state; store = s }) (record { profile = profile.entry.now; symbol = y; buffer = b }) }
     ensures made { (m n nd : ℕ) → result ≡ Admitted m n nd → Prepared (frame_of d (plan_of plan.now)) (out_phase (frame_of d (plan_of plan.now)) state.phase) kc.new flag.new }
 {
-    let mut marks = [0u16; CAPACITY];
+    let mut marks = [0u16; 4096];
     match verdicts::study(d, plan, &mut marks) {
         Verdict::Refused(g, place) => Admission::Refused(g, place),
         Verdict::Accepted(n) => {

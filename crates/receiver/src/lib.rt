@@ -1,8 +1,8 @@
 // The receiver: a receive step. The entry `receive` reads the plan bytes anew and asks nothing of its caller; what it refuses, it leaves as
 // it was.
 ghost use Rattle.std.specs.Prelude.{◌≡◌, [], ◌≤◌, ◌<◌, length};
-ghost use Rattle.rules.specs.Device.{device_of};
-ghost use Rattle.rules.specs.Fits.{Fits, capacity};
+ghost use Rattle.rules.specs.Device.{khz50};
+ghost use Rattle.rules.specs.Fits.{Fits};
 ghost use Rattle.rules.specs.Plan.{plan_of};
 ghost use Rattle.rules.specs.Frame.{frame_of, cells, line_cells};
 ghost use Rattle.rules.specs.Places.{receiver_delay, places_before, oldest, moved};
@@ -10,7 +10,7 @@ ghost use Rattle.rules.specs.Receive.{hears, out_phase, received, receive_step};
 ghost use Rattle.receivegrounds.specs.InOrder.{ReceiveInOrder, Prepared, Spots};
 
 use receivegrounds::Admission;
-use rules::{CAPACITY, Device, ReceiveAnswer, ReceiverState};
+use rules::{Device, ReceiveAnswer, ReceiverState};
 
 // The arriving cells go into the store in cell order, and x takes the oldest of each cell.
 fn take_in(
@@ -22,7 +22,7 @@ fn take_in(
     store: &mut [u16],
     x: &mut [u16],
 )
-    requires { Fits d × (0 < m) × (m ≤ capacity) × (length symbol.now ≡ d.subcarriers) × (length x.old ≡ cells (frame_of d (plan_of plan.now))) × (length x.old ≤ capacity) × (length x.old ≤ length kc.now) × (places_before (receiver_delay m) (length x.old) ≤ length store.old) × Spots (frame_of d (plan_of plan.now)) kc.now }
+    requires { Fits d × (0 < m) × (m ≤ 4096) × (length symbol.now ≡ d.subcarriers) × (length x.old ≡ cells (frame_of d (plan_of plan.now))) × (length x.old ≤ 4096) × (length x.old ≤ length kc.now) × (places_before (receiver_delay m) (length x.old) ≤ length store.old) × Spots (frame_of d (plan_of plan.now)) kc.now }
     ensures stored { store.new ≡ moved (receiver_delay m) (length x.old) store.old (line_cells (frame_of d (plan_of plan.now)) symbol.now) }
     ensures taken { x.new ≡ oldest (receiver_delay m) (length x.old) store.old (line_cells (frame_of d (plan_of plan.now)) symbol.now) }
 {
@@ -48,7 +48,7 @@ fn hear(
     requires { Fits d × ReceiveInOrder (frame_of d (plan_of plan.now)) (record { state = state; store = store.old }) (record { profile = []; symbol = symbol.now; buffer = buffer.old }) m n nd × Prepared (frame_of d (plan_of plan.now)) (out_phase (frame_of d (plan_of plan.now)) state.phase) kc.now flag.now }
     ensures { hears result store.new buffer.new ≡ received (frame_of d (plan_of plan.now)) (record { state = state; store = store.old }) (record { profile = []; symbol = symbol.now; buffer = buffer.old }) }
 {
-    let mut x = [0u16; CAPACITY];
+    let mut x = [0u16; 4096];
     take_in(d, plan, m, kc, symbol, store, &mut x[..n]);
     let next = receiving::next_state(m, state);
     if receiving::warms(state.heard, m) {
@@ -68,11 +68,11 @@ pub fn receive(
     symbol: &[u16],
     buffer: &mut [u16],
 ) -> ReceiveAnswer
-    ensures { hears result store.new buffer.new ≡ receive_step (device_of plan.now) plan.now profile.now state store.old symbol.now buffer.old }
+    ensures { hears result store.new buffer.new ≡ receive_step khz50 plan.now profile.now state store.old symbol.now buffer.old }
 {
-    let d = rules::device_of(plan);
-    let mut kc = [0u16; CAPACITY];
-    let mut flag = [0u8; CAPACITY];
+    let d = rules::khz50_device();
+    let mut kc = [0u16; 4096];
+    let mut flag = [0u8; 4096];
     match receivegrounds::admit(
         d,
         plan,

@@ -3,7 +3,6 @@
 ghost use Rattle.std.specs.Prelude.{◌≡◌, not, ◌&&◌, ◌+◌, ◌-◌, ◌%◌, ◌≤◌, ◌<◌, ltb};
 ghost use Rattle.counting.specs.Search.{pick};
 ghost use Rattle.rules.specs.Device.{phases};
-ghost use Rattle.rules.specs.Fits.{capacity};
 
 use rules::ReceiverState;
 
@@ -41,7 +40,7 @@ pub fn lacks(heard: u32, m: usize, nd: usize, places: usize) -> bool
 
 // The symbols heard after this one: one more while warming.
 fn next_heard(heard: u32, m: usize) -> u32
-    requires { (heard < m) × (m ≤ capacity) }
+    requires { (heard < m) × (m ≤ 4096) }
     ensures { result ≡ pick (ltb heard (m - 1)) (heard + 1) heard }
 {
     let more: u32 = if warms(heard, m) { 1 } else { 0 };
@@ -50,7 +49,7 @@ fn next_heard(heard: u32, m: usize) -> u32
 
 // The state of the next step: the phase goes up by one, heard does while warming.
 pub fn next_state(m: usize, state: ReceiverState) -> ReceiverState
-    requires { (state.phase < phases) × (state.heard < m) × (m ≤ capacity) }
+    requires { (state.phase < phases) × (state.heard < m) × (m ≤ 4096) }
     ensures { result ≡ record { phase = (state.phase + 1) % phases; heard = pick (ltb state.heard (m - 1)) (state.heard + 1) state.heard } }
 {
     ReceiverState {

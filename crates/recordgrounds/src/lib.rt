@@ -1,6 +1,5 @@
 // What is refused of one record of a plan: grounds 2 to 5, with the number of pilots before it.
 ghost use Rattle.std.specs.Prelude.{◌≡◌};
-ghost use Rattle.rules.specs.Plan.{is_plc};
 ghost use Rattle.rules.specs.Grounds.{bad_form, bad_next, bad_numbers, record_grounds};
 ghost use Rattle.records.specs.Read.{entry_of, found_at};
 
@@ -10,21 +9,11 @@ use rules::Device;
 // So many kind 3 records are allowed.
 const PILOTS_MAX: usize = 120;
 
-// The record gives L and M: it is of kind 1, or of kind 4.
-fn is_plc(e: Record) -> bool
-    ensures { result ≡ is_plc (entry_of e) }
-{
-    if e.kind == 1 {
-        return true;
-    }
-    e.kind == 4
-}
-
 // Ground 2.
 fn bad_form(e: Record) -> bool
     ensures { result ≡ bad_form (entry_of e) }
 {
-    if is_plc(e) {
+    if e.kind == 1 {
         if e.index != 0 {
             return true;
         }
@@ -77,7 +66,7 @@ fn bad_next(records: usize, e: Record) -> bool
 fn bad_numbers(d: Device, e: Record) -> bool
     ensures { result ≡ bad_numbers d (entry_of e) }
 {
-    if is_plc(e) {
+    if e.kind == 1 {
         if e.low < d.low_plc {
             return true;
         }

@@ -2,7 +2,7 @@
 use Rattle.std.specs.Prelude.{ℕ, List}
 use Rattle.rules.specs.declared.Verdict.{Verdict}
 use Rattle.rules.specs.declared.Verdict.TheVariants.{Accepted, Refused}
-use Rattle.rules.specs.Device.{device_of}
+use Rattle.rules.specs.Device.{khz50}
 use Rattle.rules.specs.Plan.{plan_of}
 use Rattle.rules.specs.Roles.{scattered_count}
 use Rattle.rules.specs.Grounds.{verdict}
@@ -14,4 +14,4 @@ line_for s (Accepted n) = ok_line n (scattered_count khz50 (plan_of s) 0)
 line_for s (Refused number place) = refused_line number place
 
 unfoldable pub plan_line : List ℕ → List ℕ
-plan_line s = line_for s (verdict (device_of s) s)
+plan_line s = line_for s (verdict khz50 s)

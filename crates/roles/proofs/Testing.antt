@@ -11,7 +11,7 @@ use Rattle.rules.specs.declared.Device.{Device}
 use Rattle.rules.specs.Device.{phases}
 use Rattle.rules.specs.Plan.{Plan}
 use Rattle.rules.specs.Bands.{any, excluded}
-use Rattle.rules.specs.Roles.{pattern_start, one_of, predefined, names, in_plc, continuous, scattered_at, role, mark, excluded_mark, continuous_mark, first_mark, first_role}
+use Rattle.rules.specs.Roles.{one_of, predefined, names, in_plc, continuous, scattered_at, role, mark, excluded_mark, continuous_mark, first_mark, first_role}
 
 -- k in the PLC, and k outside it
 pub in_plc_lem : (d : Device) (p : Plan) (l : ℕ) → l ≡ p.plc → (k : ℕ) → l ≤ k → k < l + d.plc_width → in_plc d p k ≡ true
@@ -74,7 +74,6 @@ module _ (d : Device) (p : Plan) where
           go (inr e) = e
 
   -- the test of the scattered pilots, as the code makes it
-  pub scattered_is : (l : ℕ) → l ≡ p.plc → (j k : ℕ) (b : Bool) (r : ℕ) → r ≡ (l + d.plc_width + pattern_start d.scatter_step j) % phases → eqb (k % phases) r ≡ b → scattered_at d p j k ≡ b
+  pub scattered_is : (l : ℕ) → l ≡ p.plc → (j k : ℕ) (b : Bool) → eqb (k % phases) ((l + d.plc_width + j) % phases) ≡ b → scattered_at d p j k ≡ b
   unfolding scattered_at
-  scattered_is l e j k b r is h =
-      ap (λ (x : ℕ). eqb (k % phases) ((x + d.plc_width + pattern_start d.scatter_step j) % phases)) (sym e) ∙ ap (eqb (k % phases)) (sym is) ∙ h
+  scattered_is l e j k b h = ap (λ (x : ℕ). eqb (k % phases) ((x + d.plc_width + j) % phases)) (sym e) ∙ h

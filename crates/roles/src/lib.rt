@@ -1,9 +1,9 @@
 // The predefined pilots of an L, and the role test: the role of a subcarrier at a phase, from its mark.
 // `plan` is there for the contracts: the role test does not read it.
-ghost use Rattle.std.specs.Prelude.{◌+◌, ◌%◌, ◌≤◌, ◌<◌, ◌≡◌};
-ghost use Rattle.rules.specs.Device.{device_of_kind, phases};
+ghost use Rattle.std.specs.Prelude.{◌≤◌, ◌<◌, ◌≡◌};
+ghost use Rattle.rules.specs.Device.{khz50, phases};
 ghost use Rattle.rules.specs.Plan.{plan_of};
-ghost use Rattle.rules.specs.Roles.{pattern_start, one_of, predefined, mark, role};
+ghost use Rattle.rules.specs.Roles.{one_of, predefined, mark, role};
 ghost use Rattle.rules.specs.Answers.{pilots_of};
 ghost use Rattle.rules.specs.Fits.{Fits};
 
@@ -42,11 +42,11 @@ pub fn pilots_of(d: Device, l: usize) -> [u16; 8]
     ]
 }
 
-// The predefined pilots of L in the device that a record 0 of this kind describes; zeros where L is out of its range.
-pub fn predefined_pilots(kind: u8, l: u16) -> [u16; 8]
-    ensures { result ≡ pilots_of (device_of_kind kind) l }
+// The predefined pilots of L in the 50 kHz device; zeros where L is out of its range.
+pub fn predefined_pilots(l: u16) -> [u16; 8]
+    ensures { result ≡ pilots_of khz50 l }
 {
-    let d = rules::device_of_kind(kind);
+    let d = rules::khz50_device();
     let low = wide(l);
     if low < d.low_plc {
         return [0; 8];
@@ -69,14 +69,6 @@ pub fn is_among(pilots: [u16; 8], k: usize) -> bool
         n += 1;
     }
     false
-}
-
-// At phase j the scattered pattern stands on the subcarriers that are this modulo 128.
-pub fn pattern_at(d: Device, l: usize, j: usize) -> usize
-    requires { Fits d × (l ≤ d.high_plc) × (j < phases) }
-    ensures { (result ≡ (l + d.plc_width + pattern_start d.scatter_step j) % phases) × (result < phases) }
-{
-    (l + d.plc_width + pattern::pattern_start(d.scatter_step, j)) % PHASES
 }
 
 // The role of subcarrier k at phase j, from its mark, the predefined pilots and L.
@@ -106,7 +98,7 @@ pub fn role_test(
     if m == CONTINUOUS {
         return Role::Continuous;
     }
-    if k % PHASES == pattern_at(d, l, j) {
+    if k % PHASES == (l + d.plc_width + j) % PHASES {
         return Role::Scattered;
     }
     Role::Data

@@ -5,8 +5,6 @@ ghost use Rattle.rules.specs.Fits.{capacity};
 ghost use Rattle.figure.specs.Figure.{line_begins};
 ghost use Rattle.rotatedlines.specs.Rotated.{Replaced, LineRotated, LinesRotated};
 
-use rules::CAPACITY;
-
 // The n cells of `from` that begin at place a go to the n places of `to` that begin at place b.
 fn copy_cells(from: &[u16], a: usize, to: &mut [u16], b: usize, n: usize)
     requires { (a + n ≤ length from.now) × (b + n ≤ length to.old) }
@@ -49,7 +47,7 @@ pub fn rotate_lines(m: usize, j: usize, store: &mut [u16])
     requires { (0 < m) × (m ≤ capacity) × (j ≤ capacity) × (line_begins j m ≤ length store.old) }
     ensures { LinesRotated j m store.old store.new }
 {
-    let mut front = [0u16; CAPACITY];
+    let mut front = [0u16; 4096];
     let mut r = 2;
     let mut begin = j;
     let mut len = j + j;

@@ -31,31 +31,6 @@ small = record {
   short_max = 1;
   ranked_max = 60;
   row_bits = 3;
-  scatter_step = 1;
-}
-
--- the same device, but that its scattered pattern moves up by two a phase
-abbrev pub small_step : Device
-small_step = record {
-  subcarriers = 96;
-  low_active = 4;
-  high_active = 91;
-  low_plc = 16;
-  high_plc = 72;
-  depth_max = 32;
-  plc_width = 4;
-  plc_margin = 10;
-  distances = 2 ∷ 4 ∷ 7 ∷ 9 ∷ [];
-  exclusion_run = 5;
-  band_min = 10;
-  band_wide = 40;
-  long_window = 20;
-  long_max = 2;
-  short_window = 6;
-  short_max = 1;
-  ranked_max = 60;
-  row_bits = 3;
-  scatter_step = 2;
 }
 
 -- records i, i + 1, .. of a kind, the last one with the next index zero; the numbers are below 256
@@ -80,7 +55,6 @@ Small =
     (verdict small (between 7 80 []) ≡ Accepted 60)
     × (predefined small 30 ≡ 21 ∷ 23 ∷ 26 ∷ 28 ∷ 35 ∷ 37 ∷ 40 ∷ 42 ∷ [])
     × (map (λ j. those (scattered small small_a j) 0 96) (0 ∷ 10 ∷ 100 ∷ []) ≡ (34 ∷ []) ∷ (44 ∷ []) ∷ [] ∷ [])
-    × (map (λ j. those (scattered small_step small_a j) 0 96) (0 ∷ 10 ∷ 70 ∷ 100 ∷ []) ≡ (34 ∷ []) ∷ (54 ∷ []) ∷ (47 ∷ []) ∷ [] ∷ [])
     × (map (rank_of small small_a) (8 ∷ 43 ∷ 79 ∷ []) ≡ 0 ∷ 23 ∷ 59 ∷ [])
     × (map (cell_rank small_frame) (0 ∷ 8 ∷ 16 ∷ 1 ∷ 2 ∷ 4 ∷ 6 ∷ 59 ∷ []) ≡ 0 ∷ 1 ∷ 2 ∷ 30 ∷ 15 ∷ 8 ∷ 23 ∷ 52 ∷ [])
     × (spot small_frame 6 ≡ 43) × (held small_frame 7 6 ≡ true) × (sent_phase small_frame 7 6 ≡ 9)

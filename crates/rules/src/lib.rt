@@ -1,15 +1,8 @@
 // The rules of document 01 as definitions (specs/), a table of them at a small device (proofs/SmallTable; crate starred has the starred
 // cases), and the types that definitions and code share: a device's sizes and the answers of the entries. Fields are spelled as in the
 // definitions.
-ghost use Rattle.std.specs.Prelude.{◌≡◌, ◌≤◌};
-ghost use Rattle.rules.specs.Device.{khz50, khz25, device_of_kind, device_of, phases};
-ghost use Rattle.rules.specs.Fits.{Fits};
-
-// The places of an array with one for each subcarrier of the largest device.
-pub const CAPACITY: usize = 8192;
-
-// A record 0 of this kind describes the 25 kHz device.
-const KIND_25: u8 = 4;
+ghost use Rattle.std.specs.Prelude.{◌≡◌};
+ghost use Rattle.rules.specs.Device.{khz50};
 
 // The sizes in which devices differ.
 #[derive(Drop)]
@@ -43,8 +36,6 @@ pub struct Device {
     pub ranked_max: usize,
     // the frequency rule reads 2^row_bits rows of cells
     pub row_bits: usize,
-    // from phase to phase the scattered pattern moves up by so many subcarriers
-    pub scatter_step: usize,
 }
 
 // What a look for grounds finds: nothing, or the number and place of one.
@@ -170,53 +161,5 @@ pub fn khz50_device() -> Device
         short_max: 4,
         ranked_max: 3745,
         row_bits: 7,
-        scatter_step: 1,
     }
-}
-
-// The 25 kHz device.
-pub fn khz25_device() -> Device
-    ensures { result ≡ khz25 }
-{
-    Device {
-        subcarriers: 8192,
-        low_active: 296,
-        high_active: 7896,
-        low_plc: 408,
-        high_plc: 7769,
-        depth_max: 16,
-        plc_width: 16,
-        plc_margin: 112,
-        distances: [30, 48, 70, 94],
-        exclusion_run: 40,
-        band_min: 80,
-        band_wide: 880,
-        long_window: 240,
-        long_max: 12,
-        short_window: 40,
-        short_max: 8,
-        ranked_max: 7537,
-        row_bits: 8,
-        scatter_step: 2,
-    }
-}
-
-// The device that a record 0 of a kind describes.
-pub fn device_of_kind(kind: u8) -> Device
-    ensures { result ≡ device_of_kind kind }
-{
-    if kind == KIND_25 {
-        return khz25_device();
-    }
-    khz50_device()
-}
-
-// The device that a plan describes, by its first byte. Either fits, and has no more symbols of delay than phases.
-pub fn device_of(plan: &[u8]) -> Device
-    ensures { (result ≡ device_of plan.now) × Fits result × (result.depth_max ≤ phases) }
-{
-    if plan.len() == 0 {
-        return device_of_kind(0);
-    }
-    device_of_kind(plan[0])
 }

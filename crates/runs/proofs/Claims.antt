@@ -1,4 +1,4 @@
--- Demand 3 and the other claims hold of every plan whose frame is sound and has a data cell at each phase; so of every plan that its device accepts. Assumes nothing.
+-- Demand 3 and the other claims hold of every plan whose frame is sound and has a data cell at each phase; so of every plan that the 50 kHz device accepts. Assumes nothing.
 use Prim.Native.Nat.{ℕ, ◌≤◌, ◌<◌}
 use mathlib.Core.Path.{◌≡◌, refl, sym, subst}
 use mathlib.Core.Logic.{◌↔◌}
@@ -8,21 +8,19 @@ use lib.ListN.{length}
 use Rattle.rules.specs.declared.Device.{Device}
 use Rattle.rules.specs.declared.Finding.TheVariants.{Fine}
 use Rattle.rules.specs.declared.Verdict.TheVariants.{Accepted}
-use Rattle.rules.specs.Device.{device_of, phases}
-use Rattle.rules.specs.Fits.{Fits}
+use Rattle.rules.specs.Device.{khz50, phases}
 use Rattle.rules.specs.Plan.{Plan, plan_of}
 use Rattle.rules.specs.Grounds.{grounds1to15, verdict}
 use Rattle.rules.specs.Frame.{Frame, frame_of, data_count}
 use Rattle.rules.specs.Loads.{limit_at}
 use Rattle.rules.specs.Steps.{Emitter, Send}
 use Rattle.rules.specs.Receive.{Receiver, Arrival}
-use Rattle.rules.proofs.Sizes.{plan_fits}
 use Rattle.frame.specs.Counted.{Counts}
 use Rattle.frame.proofs.Cells.{Sound}
 use Rattle.facts.specs.Roomy.{Roomy}
 use Rattle.facts.proofs.Framed.{sound, counted}
 use Rattle.facts.proofs.Data.{some_data}
-use Rattle.facts.proofs.Sizes.{plan_roomy}
+use Rattle.facts.proofs.Sizes.{khz50_roomy}
 use Rattle.verdicts.proofs.Verdicts.{no_ground}
 use Rattle.runs.specs.Run.{cell_entries, input, sent, Fresh, heard, FreshReceiver}
 use Rattle.runs.specs.Follow.{Flushed, Follows}
@@ -93,15 +91,15 @@ module _ (d : Device) (s : List ℕ) (roomy : Roomy d) (fine : grounds1to15 d s 
   pub roomy_demand3 : Demand3 (frame_of d (plan_of s)) (cell_entries d s)
   roomy_demand3 = subst (Demand3 (frame_of d (plan_of s))) (sym (frame_entries_lem d s fine)) (frame_demand3 d (plan_of s) (sound d s roomy.depth fine) (some_data d s roomy fine))
 
-  pub roomy_claims : Fits d → PlanClaims (frame_of d (plan_of s)) (cell_entries d s)
-  roomy_claims fits =
+  pub roomy_claims : PlanClaims (frame_of d (plan_of s)) (cell_entries d s)
+  roomy_claims =
       subst (PlanClaims (frame_of d (plan_of s))) (sym (frame_entries_lem d s fine))
-      (frame_claims d (plan_of s) (sound d s roomy.depth fine) (some_data d s roomy fine) (counted d s fits roomy.depth fine))
+      (frame_claims d (plan_of s) (sound d s roomy.depth fine) (some_data d s roomy fine) (counted d s roomy.depth fine))
 
--- every plan that the device which it describes accepts
-module _ (s : List ℕ) (n : ℕ) (e : verdict (device_of s) s ≡ Accepted n) where
-  pub accepted_demand3 : Demand3 (frame_of (device_of s) (plan_of s)) (cell_entries (device_of s) s)
-  accepted_demand3 = roomy_demand3 (device_of s) s (plan_roomy s) (no_ground (device_of s) s n (sym e))
+-- every plan that the 50 kHz device accepts
+module _ (s : List ℕ) (n : ℕ) (e : verdict khz50 s ≡ Accepted n) where
+  pub accepted_demand3 : Demand3 (frame_of khz50 (plan_of s)) (cell_entries khz50 s)
+  accepted_demand3 = roomy_demand3 khz50 s khz50_roomy (no_ground khz50 s n (sym e))
 
-  pub accepted_claims : PlanClaims (frame_of (device_of s) (plan_of s)) (cell_entries (device_of s) s)
-  accepted_claims = roomy_claims (device_of s) s (plan_roomy s) (no_ground (device_of s) s n (sym e)) (plan_fits s)
+  pub accepted_claims : PlanClaims (frame_of khz50 (plan_of s)) (cell_entries khz50 s)
+  accepted_claims = roomy_claims khz50 s khz50_roomy (no_ground khz50 s n (sym e))

@@ -34,7 +34,7 @@ pub record PlanClaims (F : Frame) (E : Entries) : Type 0 where
   -- a fresh start at a phase below 128 is not refused: of an emitter in a store of at least `emitter_places` cells, of a receiver in one of `receiver_places`
   pub started : (j : ℕ) (lent : List ℕ) → j < F.phases → E.whole lent ≡ true → emitter_places F ≤ length (E.read lent) → is_started (E.start j lent).answer ≡ true
   pub listens : (j : ℕ) (lent : List ℕ) → j < F.phases → E.whole lent ≡ true → receiver_places F ≤ length (E.read lent) → is_listening (E.listen j lent).answer ≡ true
-  -- in every run, one more step that is lent a symbol of the device's cells is not refused: an emit step given a profile that 25 does not refuse and N_D numbers up to the limits of
+  -- in every run, one more step that is lent a symbol of 4,096 cells is not refused: an emit step given a profile that 25 does not refuse and N_D numbers up to the limits of
   -- their loads, and a flush
   pub emits : (j : ℕ) (e : Emitter) → Fresh E j e → (steps : List Send) (w ds room : List ℕ) → ground25 F.width w ≡ Fine
       → InputAt F E w (phase_of F j (length (sent E e steps))) ds → E.whole room ≡ true → length (E.read room) ≡ F.width

@@ -5,21 +5,21 @@ ghost use Rattle.std.specs.Prelude.{◌≡◌, List, ℕ, ◌≤◌, length};
 ghost use Rattle.counting.specs.Search.{pick};
 ghost use Rattle.rules.specs.declared.Finding.TheVariants.{Fine};
 ghost use Rattle.rules.specs.Device.{phases};
-ghost use Rattle.rules.specs.Fits.{Fits, capacity};
+ghost use Rattle.rules.specs.Fits.{Fits};
 ghost use Rattle.rules.specs.Loads.{ground25};
 ghost use Rattle.steps.specs.Ready.{Ready};
 ghost use Rattle.steps.specs.Begins.{Begins};
 ghost use Rattle.sending.specs.Sent.{given_by, at, giving};
 ghost use Rattle.sendgrounds.specs.Opening.{SendOpens};
 
-use rules::{CAPACITY, CountAnswer, Device, EmitterState, Finding, Verdict};
+use rules::{CountAnswer, Device, EmitterState, Finding, Verdict};
 
 // Grounds 16 to 19 and 27 of a step under an accepted plan of n cells and a profile that 25 does not refuse, and what they leave, as `admit`
 // has it.
 fn admit_step(
     d: Device,
     plan: &[u8],
-    marks: &[u16; CAPACITY],
+    marks: &[u16; 4096],
     n: u32,
     profile: &[u8],
     flushing: bool,
@@ -28,11 +28,11 @@ fn admit_step(
     width: usize,
     number: usize,
     given: &[u16],
-    car: &mut [u16; CAPACITY],
+    car: &mut [u16; 4096],
     x: &mut [u16],
     literal: bool,
 ) -> Verdict
-    requires { Ready d plan.now n marks.now × (pick flushing Fine (ground25 d.subcarriers profile.now) ≡ Fine) × (number ≤ d.subcarriers → number ≤ length given.now) × (length car.old ≡ capacity) × (d.subcarriers ≤ length x.old) }
+    requires { Ready d plan.now n marks.now × (pick flushing Fine (ground25 d.subcarriers profile.now) ≡ Fine) × (number ≤ d.subcarriers → number ≤ length given.now) × (length car.old ≡ 4096) × (d.subcarriers ≤ length x.old) }
     ensures { (store ds room : List ℕ) → length store ≡ places → length room ≡ width → Begins given.now number ds → SendOpens result literal d plan.now (at state store) (giving (given_by flushing ds) profile.now room) marks.now car.new x.new }
 {
     let ni = n as usize;
@@ -40,8 +40,8 @@ fn admit_step(
     let j = state.phase as usize;
     let need = figure::places_17(literal, m, ni);
     let lines = figure::places_27(literal, m, ni);
-    let mut kc = [0u16; CAPACITY];
-    let mut flag = [0u8; CAPACITY];
+    let mut kc = [0u16; 4096];
+    let mut flag = [0u8; 4096];
     match steps::ready(
         d,
         plan,
@@ -94,12 +94,12 @@ pub fn admit(
     width: usize,
     number: usize,
     given: &[u16],
-    marks: &mut [u16; CAPACITY],
-    car: &mut [u16; CAPACITY],
+    marks: &mut [u16; 4096],
+    car: &mut [u16; 4096],
     x: &mut [u16],
     literal: bool,
 ) -> Verdict
-    requires { Fits d × (d.depth_max ≤ phases) × (number ≤ d.subcarriers → number ≤ length given.now) × (length marks.old ≡ capacity) × (length car.old ≡ capacity) × (d.subcarriers ≤ length x.old) }
+    requires { Fits d × (d.depth_max ≤ phases) × (number ≤ d.subcarriers → number ≤ length given.now) × (length marks.old ≡ 4096) × (length car.old ≡ 4096) × (d.subcarriers ≤ length x.old) }
     ensures { (store ds room : List ℕ) → length store ≡ places → length room ≡ width → Begins given.now number ds → SendOpens result literal d plan.now (at state store) (giving (given_by flushing ds) profile.now room) marks.new car.new x.new }
 {
     match verdicts::study(d, plan, marks) {

@@ -5,7 +5,7 @@ ghost use Rattle.counting.specs.Search.{count};
 ghost use Rattle.rules.specs.Plan.{plan_of};
 ghost use Rattle.rules.specs.Bands.{excluded};
 ghost use Rattle.rules.specs.Grounds.{much_excluded};
-ghost use Rattle.rules.specs.Fits.{Fits, capacity};
+ghost use Rattle.rules.specs.Fits.{Fits};
 ghost use Rattle.bands.specs.BandList.{EdgeRuns};
 
 use counting::wide;
@@ -14,7 +14,7 @@ use rules::Device;
 // How many subcarriers are excluded between the first run and the last, which touch the ends.
 fn inner(d: Device, plan: &[u8], lo: &[u16], hi: &[u16], n: usize) -> usize
     requires { Fits d × EdgeRuns d (plan_of plan.now) lo.now hi.now n }
-    ensures { (result + count (excluded (plan_of plan.now)) (get_or hi.now 0 0) ≡ count (excluded (plan_of plan.now)) (get_or lo.now (n - 1) 0)) × (result ≤ capacity) }
+    ensures { (result + count (excluded (plan_of plan.now)) (get_or hi.now 0 0) ≡ count (excluded (plan_of plan.now)) (get_or lo.now (n - 1) 0)) × (result ≤ 4096) }
 {
     let mut sum: usize = 0;
     let mut i: usize = 1;

@@ -14,9 +14,8 @@ use Rattle.counting.proofs.Sums.{count_not}
 use Rattle.counting.proofs.Select.{selected, select_ext}
 use Rattle.rules.specs.Device.{phases}
 use Rattle.rules.specs.Fits.{capacity}
-use Rattle.rules.specs.Roles.{pattern_start}
 use Rattle.rules.specs.Frame.{Frame, cells, carrier, spot, held, is_data, data_count, sent_phase, line_symbol}
-use Rattle.placeholders.specs.Meets.{wanted, meets}
+use Rattle.placeholders.specs.Meets.{meets}
 use Rattle.walk.specs.Stores.{stores}
 use Rattle.spots.specs.Tied.{Tied, Turning}
 use Rattle.walk.proofs.Stores.{stores_ext}
@@ -73,26 +72,28 @@ module _ (F : Frame) (m : List ℕ) (t : Tied F m) where
       ∙ placed_is F cell walk x clean (ap length ec ∙ length-take-le F.width m t.long) (λ k h g. ap (λ (y : List ℕ). get_or y k 0) ec ∙ get_or-take F.width m k 0 h ∙ t.marks k h g)
 
 -- the placeholders of an input symbol
-module _ (F : Frame) (base up : ℕ) (t : Turning F base up) (j : ℕ) (kc : List ℕ) where
-  pub held_of : (p : ℕ) → get_or kc p 0 ≡ spot F p → meets (wanted up base j) F.depth kc p ≡ held F j p
-  unfolding meets wanted held
+module _ (F : Frame) (base : ℕ) (t : Turning F base) (j : ℕ) (kc : List ℕ) where
+  pub held_of : (p : ℕ) → get_or kc p 0 ≡ spot F p → meets (base + j) F.depth kc p ≡ held F j p
+  unfolding meets held
   held_of p e =
-      ap (λ (x : ℕ). eqb (x % phases) (wanted up base j (p % F.depth))) e
-      ∙ sym (t.pattern (sent_phase F j p) (spot F p)
-      ∙ ap (λ (x : ℕ). eqb (spot F p % phases) ((base + pattern_start up ((j + p % F.depth) % x)) % phases)) t.period)
+      ap (λ (x : ℕ). eqb (x % phases) ((base + j + p % F.depth) % phases)) e
+      ∙ sym (t.pattern (sent_phase F j p) (spot F p) ∙ ap (λ (x : ℕ). eqb (spot F p % phases) x) (turn (p % F.depth)))
+    where
+      turn : (d : ℕ) → (base + (j + d) % F.phases) % phases ≡ (base + j + d) % phases
+      turn d = ap (λ (x : ℕ). (base + (j + d) % x) % phases) t.period ∙ omega arith
 
   -- the flags of the loop are those of the placeholders, and the cells without one are N_D
   pub flags_are : (m at : ℕ) → m ≡ F.depth → at ≡ base → ((p : ℕ) → p < length kc → get_or kc p 0 ≡ spot F p) → length kc ≡ cells F → (flag : List ℕ) (n : ℕ)
-      → ((p : ℕ) → p < length kc → get_or flag p 0 ≡ bit (meets (wanted up at j) m kc p)) → n ≡ count (meets (wanted up at j) m kc) (length kc)
+      → ((p : ℕ) → p < length kc → get_or flag p 0 ≡ bit (meets (at + j) m kc p)) → n ≡ count (meets (at + j) m kc) (length kc)
       → ((p : ℕ) → p < length kc → get_or flag p 0 ≡ bit (held F j p)) × (length kc - n ≡ data_count F j)
   flags_are m at em eb spots size flag n flags e = (λ p l. flags p l ∙ ap bit (meeting p l), number)
     where
-      meeting : (p : ℕ) → p < length kc → meets (wanted up at j) m kc p ≡ held F j p
-      meeting p l = ap₂ (λ (x y : ℕ). meets (wanted up x j) y kc p) eb em ∙ held_of p (spots p l)
+      meeting : (p : ℕ) → p < length kc → meets (at + j) m kc p ≡ held F j p
+      meeting p l = ap₂ (λ (x y : ℕ). meets (x + j) y kc p) eb em ∙ held_of p (spots p l)
 
       number : length kc - n ≡ data_count F j
       number =
           unfold data_count is_data in (
-          let some : n ≡ count (held F j) (length kc) = e ∙ count_ext (meets (wanted up at j) m kc) (held F j) (length kc) meeting in
+          let some : n ≡ count (held F j) (length kc) = e ∙ count_ext (meets (at + j) m kc) (held F j) (length kc) meeting in
           let rest : length kc - n ≡ count (λ p. not (held F j p)) (length kc) = omega (arith, some, count_not (held F j) (length kc)) in
           rest ∙ ap (count (λ p. not (held F j p))) size)

@@ -1,4 +1,4 @@
--- The first n places of an array of zeros, one for each subcarrier of the largest device. Assumes nothing.
+-- The first n places of an array of 4,096 zeros. Assumes nothing.
 use Prim.Native.Nat.{ℕ, ◌≤◌}
 use mathlib.Core.Path.{◌≡◌}
 use native.Mathlib.Omega.{arith}

@@ -22,6 +22,6 @@ tied_of d p m fits w = record {
   marks = λ k l e. w.cell k l;
 }
 
-pub turning_of : (d : Device) (p : Plan) → Fits d → Turning (frame_of d p) (p.plc + d.plc_width) d.scatter_step
+pub turning_of : (d : Device) (p : Plan) → Turning (frame_of d p) (p.plc + d.plc_width)
 unfolding frame_of scattered_at
-turning_of d p fits = record { step = fits.step; period = refl; pattern = λ j k. refl }
+turning_of d p = record { period = refl; pattern = λ j k. refl }

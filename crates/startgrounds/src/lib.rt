@@ -7,13 +7,13 @@ ghost use Rattle.rules.specs.Fits.{Fits, capacity};
 ghost use Rattle.verdicts.specs.Studied.{StudiedIf};
 ghost use Rattle.startgrounds.specs.Admit.{phase_verdict, emitter_verdict, receiver_answer, SpottedIf};
 
-use rules::{CAPACITY, CountAnswer, Device, Verdict};
+use rules::{CountAnswer, Device, Verdict};
 
 // Phases are 0 to 127.
 const PHASES: usize = 128;
 
 // Grounds 1 to 16 of a start: the first that holds, or N_I. Where none holds, the lent array has the marks.
-fn admit(d: Device, plan: &[u8], phase: u32, marks: &mut [u16; CAPACITY]) -> Verdict
+fn admit(d: Device, plan: &[u8], phase: u32, marks: &mut [u16; 4096]) -> Verdict
     requires { Fits d × (length marks.old ≡ capacity) }
     ensures answer { result ≡ phase_verdict d plan.now phase }
     ensures studied { StudiedIf result d plan.now marks.new }
@@ -43,7 +43,7 @@ pub fn admit_emitter(
     ensures answer { (s : List ℕ) → length s ≡ places → result ≡ emitter_verdict literal d plan.now phase s }
     ensures spotted { SpottedIf result d plan.now kc.new }
 {
-    let mut marks = [0u16; CAPACITY];
+    let mut marks = [0u16; 4096];
     match admit(d, plan, phase, &mut marks) {
         Verdict::Refused(g, place) => Verdict::Refused(g, place),
         Verdict::Accepted(n) => {
@@ -55,7 +55,7 @@ pub fn admit_emitter(
             if places < figure::places_27(literal, m, ni) {
                 return Verdict::Refused(27, 0);
             }
-            let mut car = [0u16; CAPACITY];
+            let mut car = [0u16; 4096];
             spots::spots(d, plan, &marks, &mut car, &mut kc[..ni]);
             Verdict::Accepted(n)
         }
@@ -67,7 +67,7 @@ pub fn admit_receiver(d: Device, plan: &[u8], phase: u32, places: usize) -> Coun
     requires { Fits d × (d.depth_max ≤ phases) }
     ensures { (s : List ℕ) → length s ≡ places → result ≡ receiver_answer d plan.now phase s }
 {
-    let mut marks = [0u16; CAPACITY];
+    let mut marks = [0u16; 4096];
     match admit(d, plan, phase, &mut marks) {
         Verdict::Refused(g, place) => CountAnswer::Refused(g, place),
         Verdict::Accepted(n) => {

@@ -8,7 +8,7 @@ ghost use Rattle.rules.specs.Frame.{frame_of};
 ghost use Rattle.rules.specs.Steps.{ground16, ground17};
 ghost use Rattle.steps.specs.Ready.{Ready, ready_answer, MadeIf};
 
-use rules::{CAPACITY, CountAnswer, Device, Finding};
+use rules::{CountAnswer, Device, Finding};
 
 // Phases are 0 to 127.
 const PHASES: usize = 128;
@@ -42,7 +42,7 @@ fn lent_grounds(
 pub fn ready(
     d: Device,
     plan: &[u8],
-    marks: &[u16; CAPACITY],
+    marks: &[u16; 4096],
     m: usize,
     phase: u32,
     need: usize,
@@ -53,7 +53,7 @@ pub fn ready(
     kc: &mut [u16],
     flag: &mut [u8],
 ) -> CountAnswer
-    requires { Ready d plan.now (length kc.old) marks.now × (m ≡ (plan_of plan.now).depth) × (phase < phases → j < phases) × (d.subcarriers ≤ length car.old) × (length flag.old ≡ length kc.old) }
+    requires { Ready d plan.now (length kc.old) marks.now × (m ≡ (plan_of plan.now).depth) × (phase < phases → j ≤ 4096) × (length car.old ≡ 4096) × (length flag.old ≡ length kc.old) }
     ensures answer { (s y : List ℕ) → length s ≡ places → length y ≡ width → result ≡ ready_answer (frame_of d (plan_of plan.now)) phase need s y j }
     ensures made { MadeIf result (frame_of d (plan_of plan.now)) j car.new kc.new flag.new }
 {

@@ -4,7 +4,6 @@ ghost use Rattle.std.specs.Prelude.{◌≡◌, List, ℕ, ◌+◌, ◌≤◌, le
 ghost use Rattle.std.proofs.lemmas.List.Edits.{sets};
 ghost use Rattle.counting.specs.Search.{count, is_zero};
 ghost use Rattle.fill.specs.Flags.{taken_data};
-ghost use Rattle.rules.specs.Fits.{capacity};
 
 use fill::{all_data, copy_block};
 
@@ -29,7 +28,7 @@ fn take_cells(cells: &[u16], flag: &[u8], p: usize, k: usize, buffer: &mut [u16]
 
 // The data cells of an input symbol go to the start of the buffer, in rising order.
 pub fn take_data(cells: &[u16], flag: &[u8], buffer: &mut [u16])
-    requires { (length cells.now ≤ capacity) × (length cells.now ≤ length flag.now) × (count (is_zero flag.now) (length cells.now) ≤ length buffer.old) }
+    requires { (length cells.now ≤ 4096) × (length cells.now ≤ length flag.now) × (count (is_zero flag.now) (length cells.now) ≤ length buffer.old) }
     ensures { buffer.new ≡ sets buffer.old 0 (taken_data flag.now cells.now) }
 {
     let n = cells.len();

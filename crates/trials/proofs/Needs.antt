@@ -6,7 +6,7 @@ use native.Mathlib.Omega.{arith}
 use lib.ListN.{length}
 use Rattle.rules.specs.declared.Finding.TheVariants.{Fine}
 use Rattle.rules.specs.declared.Verdict.TheVariants.{Accepted}
-use Rattle.rules.specs.Device.{device_of}
+use Rattle.rules.specs.Device.{khz50}
 use Rattle.rules.specs.Fits.{capacity}
 use Rattle.rules.specs.Plan.{plan_of}
 use Rattle.rules.specs.Grounds.{grounds1to15, verdict}
@@ -24,14 +24,14 @@ pub record Counted (s : List ℕ) (n : ℕ) : Type 0 where
   pub all : n ≡ cells (frame_of khz50 (plan_of s))
   pub few : n ≤ capacity
 
-pub counted : (s : List ℕ) (n : ℕ) → Accepted n ≡ verdict (device_of s) s → Counted s n
+pub counted : (s : List ℕ) (n : ℕ) → Accepted n ≡ verdict khz50 s → Counted s n
 unfolding frame_of
 counted s n e =
-    let fine : grounds1to15 (device_of s) s ≡ Fine = no_ground (device_of s) s n e in
-    let depth = depth_in (device_of s) s fine in
-    let all : n ≡ cells (frame_of khz50 (plan_of s)) = accepted_cells (device_of s) s n e in
+    let fine : grounds1to15 khz50 s ≡ Fine = no_ground khz50 s n e in
+    let depth = depth_in khz50 s fine in
+    let all : n ≡ cells (frame_of khz50 (plan_of s)) = accepted_cells khz50 s n e in
     record {
-      whole = long (device_of s) s fine;
+      whole = long khz50 s fine;
       deep = depth.0;
       shallow = omega (arith, depth.1);
       all = all;

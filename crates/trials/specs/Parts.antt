@@ -5,7 +5,7 @@ use Rattle.rules.specs.declared.CountAnswer.{CountAnswer}
 use Rattle.rules.specs.declared.CountAnswer.TheVariants as a-count
 use Rattle.rules.specs.declared.Verdict.{Verdict}
 use Rattle.rules.specs.declared.Verdict.TheVariants as a-verdict
-use Rattle.rules.specs.Device.{device_of}
+use Rattle.rules.specs.Device.{khz50}
 use Rattle.rules.specs.Steps.{Sending as Sent, Starting, leaves, starts, emit_step, flush_step, start_step}
 use Rattle.rules.specs.Receive.{Receiving as Heard, Listening, hears, listens, receive_step, listen_step}
 use Rattle.trials.specs.declared.Sending.{Sending}
@@ -35,8 +35,8 @@ abbrev pub send_part : List ℕ → List ℕ → Sending → List ℕ → List �
 send_part plan w g store cells symbol =
     sent_over g.store g.symbol store symbol
     (pick g.flush
-    (flush_step (device_of plan) plan (record { phase = g.phase }) (take g.store store) (take g.symbol symbol))
-    (emit_step (device_of plan) plan w (record { phase = g.phase }) (take g.store store) (take g.count cells) (take g.symbol symbol)))
+    (flush_step khz50 plan (record { phase = g.phase }) (take g.store store) (take g.symbol symbol))
+    (emit_step khz50 plan w (record { phase = g.phase }) (take g.store store) (take g.count cells) (take g.symbol symbol)))
 
 -- a step on the first n cells of store and the first b of the data buffer, with what stands after them
 abbrev pub heard_over : ℕ → ℕ → List ℕ → List ℕ → Heard → Heard
@@ -46,12 +46,12 @@ heard_over n b store buffer s = hears s.answer (s.store ++ drop n store) (s.buff
 abbrev pub receive_part : List ℕ → List ℕ → Receiving → List ℕ → List ℕ → List ℕ → Heard
 receive_part plan w g store symbol buffer =
     heard_over g.store g.buffer store buffer
-    (receive_step (device_of plan) plan w (record { phase = g.phase; heard = g.heard }) (take g.store store) (take g.symbol symbol) (take g.buffer buffer))
+    (receive_step khz50 plan w (record { phase = g.phase; heard = g.heard }) (take g.store store) (take g.symbol symbol) (take g.buffer buffer))
 
 -- a fresh emitter in the first n cells, with what stands after them
 abbrev pub start_part : List ℕ → ℕ → ℕ → List ℕ → Starting
-start_part plan j n store = let s = start_step (device_of plan) plan j (take n store) in starts s.answer (s.store ++ drop n store)
+start_part plan j n store = let s = start_step khz50 plan j (take n store) in starts s.answer (s.store ++ drop n store)
 
 -- a fresh receiver in the first n cells, with what stands after them
 abbrev pub listen_part : List ℕ → ℕ → ℕ → List ℕ → Listening
-listen_part plan j n store = let s = listen_step (device_of plan) plan j (take n store) in listens s.answer (s.store ++ drop n store)
+listen_part plan j n store = let s = listen_step khz50 plan j (take n store) in listens s.answer (s.store ++ drop n store)

@@ -2,7 +2,7 @@
 // stores, symbols and data buffers that are too short.
 ghost use Rattle.std.specs.Prelude.{◌≡◌};
 ghost use Rattle.io.specs.Counts.{IsPrefixLen};
-ghost use Rattle.rules.specs.Device.{device_of};
+ghost use Rattle.rules.specs.Device.{khz50};
 ghost use Rattle.rules.specs.Plan.{plan_of};
 ghost use Rattle.rules.specs.Grounds.{verdict};
 ghost use Rattle.rules.specs.Frame.{frame_of};
@@ -49,7 +49,7 @@ pub fn at_most(n: usize, cells: &[u16]) -> usize
 
 // N_D at a phase, 0 where it is refused.
 pub fn data_count(plan: &[u8], phase: u32) -> usize
-    ensures { result ≡ counted (data_count_answer (device_of plan.now) plan.now phase) }
+    ensures { result ≡ counted (data_count_answer khz50 plan.now phase) }
 {
     match cells::data_count(plan, phase) {
         CountAnswer::Count(n) => n as usize,
@@ -59,7 +59,7 @@ pub fn data_count(plan: &[u8], phase: u32) -> usize
 
 // The places that an emitter's store needs under an accepted plan, 0 under another.
 pub fn emitter_need(plan: &[u8]) -> usize
-    ensures { result ≡ needed (emitter_places (frame_of khz50 (plan_of plan.now))) (verdict (device_of plan.now) plan.now) }
+    ensures { result ≡ needed (emitter_places (frame_of khz50 (plan_of plan.now))) (verdict khz50 plan.now) }
 {
     match judge::judge(plan) {
         Verdict::Accepted(n) => places::emitter_places(records::number_at(plan, 6), n as usize),
@@ -69,7 +69,7 @@ pub fn emitter_need(plan: &[u8]) -> usize
 
 // The places that a receiver's store needs under an accepted plan, 0 under another.
 pub fn receiver_need(plan: &[u8]) -> usize
-    ensures { result ≡ needed (receiver_places (frame_of khz50 (plan_of plan.now))) (verdict (device_of plan.now) plan.now) }
+    ensures { result ≡ needed (receiver_places (frame_of khz50 (plan_of plan.now))) (verdict khz50 plan.now) }
 {
     match judge::judge(plan) {
         Verdict::Accepted(n) => places::receiver_places(records::number_at(plan, 6), n as usize),

@@ -5,7 +5,7 @@ use Prim.Native.Nat.{ℕ}
 use Rattle.rules.specs.declared.Device.{Device}
 use Rattle.rules.specs.declared.Finding.TheVariants.{Fine}
 use Rattle.rules.specs.declared.Verdict.TheVariants.{Accepted, Refused}
-use Rattle.rules.specs.Device.{device_of}
+use Rattle.rules.specs.Device.{khz50}
 use Rattle.rules.specs.Grounds.{grounds1to5, verdict}
 use Rattle.copies.specs.Copy.{copy_with}
 use Rattle.exclusion.specs.Trial.{trial_verdict}
@@ -21,13 +21,13 @@ module _ (d : Device) (is : d ≡ khz50) (s : List ℕ) (a b : ℕ) where
   refused_try g place e = ap (line_for (copy_with s a b)) (e ∙ ap (λ (x : Device). trial_verdict x s a b) is)
 
   module _ (fine : grounds1to5 d s ≡ Fine) where
-    fine_50 : grounds1to5 (device_of s) s ≡ Fine
+    fine_50 : grounds1to5 khz50 s ≡ Fine
     fine_50 = sym (ap (λ (x : Device). grounds1to5 x s) is) ∙ fine
 
     -- of the copy
     pub copy_line : plan_line (copy_with s a b) ≡ try_line s a b
     unfolding try_line plan_line
-    copy_line = ap (line_for (copy_with s a b)) (sym (trial_copy (device_of s) s a b fine_50))
+    copy_line = ap (line_for (copy_with s a b)) (sym (trial_copy khz50 s a b fine_50))
 
     -- N_I of an accepted trial is that of the copy
     pub copy_accepted : (n : ℕ) → Accepted n ≡ trial_verdict d s a b → Accepted n ≡ verdict khz50 (copy_with s a b)

@@ -14,7 +14,7 @@ pub fn try_line(plan: &[u8], first: u16, last: u16) -> Line
     ensures prefix_len { IsPrefixLen result.len result.text }
 {
     let mut copy = [0u8; COPY_MAX];
-    let trial = exclusion::try_range(rules::device_of(plan), plan, first, last, &mut copy);
+    let trial = exclusion::try_range(rules::khz50_device(), plan, first, last, &mut copy);
     let length = trial.length;
     let verdict = trial.verdict;
     match verdict {

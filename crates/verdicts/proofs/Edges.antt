@@ -12,13 +12,13 @@ use borrow.Author.Tests.{lt-ltb, le-leb}
 use Rattle.counting.specs.Runs.{Runs, before}
 use Rattle.counting.proofs.Bools.{Less, decide, or_true}
 use Rattle.counting.proofs.Laws.{lowest_none}
-use Rattle.ranges.specs.Reach.{runs_max, hit}
+use Rattle.ranges.specs.Reach.{hit}
 use Rattle.rules.specs.declared.Device.{Device}
 use Rattle.rules.specs.declared.Finding.TheVariants.{Fine}
 use Rattle.rules.specs.Plan.{Plan, plan_of, number}
 use Rattle.rules.specs.Bands.{excluded, active}
 use Rattle.rules.specs.Grounds.{outside, around_plc}
-use Rattle.rules.specs.Fits.{Fits, capacity}
+use Rattle.rules.specs.Fits.{Fits}
 use Rattle.plan.specs.Noted.{Noted}
 use Rattle.marks.specs.Marked.{Ready, grounds6to8}
 use Rattle.marks.proofs.Marks.{early_fine}
@@ -40,8 +40,8 @@ runs_same e f size lo hi n h r = record {
 }
 
 -- what grounds 6 to 8 are tried on
-pub ready : (d : Device) (s : List ℕ) (np : ℕ) (reach hot pil rec lo hi m : List ℕ) (n l : ℕ) → Fits d → Noted d s np reach hot pil rec → Runs (hit reach) d.subcarriers lo hi n → n ≤ runs_max
-    → length lo ≡ runs_max → length hi ≡ runs_max → l ≡ number s 4 → length m ≡ capacity → Ready d (plan_of s) lo hi n pil rec np l m
+pub ready : (d : Device) (s : List ℕ) (np : ℕ) (reach hot pil rec lo hi m : List ℕ) (n l : ℕ) → Fits d → Noted d s np reach hot pil rec → Runs (hit reach) d.subcarriers lo hi n → n ≤ 2048
+    → length lo ≡ 2048 → length hi ≡ 2048 → l ≡ number s 4 → length m ≡ 4096 → Ready d (plan_of s) lo hi n pil rec np l m
 unfolding plan_of
 ready d s np reach hot pil rec lo hi m n l fits w r few a b e size = record {
   fits = fits;

@@ -3,36 +3,35 @@
 ghost use Rattle.std.specs.Prelude.{◌≡◌, false, ◌/◌, length};
 ghost use Rattle.rules.specs.Grounds.{bad_length, grounds1to5, verdict};
 ghost use Rattle.rules.specs.declared.Finding.TheVariants.{Fine};
-ghost use Rattle.rules.specs.Fits.{Fits, capacity};
+ghost use Rattle.rules.specs.Fits.{Fits};
 ghost use Rattle.plan.specs.Noted.{Noted};
 ghost use Rattle.plan.specs.Walk.{Kept};
 ghost use Rattle.verdicts.specs.Studied.{StudiedIf};
 
 use plan::Chain;
-use ranges::{BLOCKS, RUNS};
-use rules::{CAPACITY, Device, Finding, Verdict};
+use rules::{Device, Finding, Verdict};
 
-// Grounds 6 to 15 of a plan whose chain is good, from its tables. That of the ranges is used up.
+// Grounds 6 to 15 of a plan whose chain is good, from its tables.
 fn study_tables(
     d: Device,
     plan: &[u8],
-    reach: &mut [u16; CAPACITY],
-    hot: &[u8; BLOCKS],
+    reach: &[u16; 4096],
+    hot: &[u8; 256],
     pil: &[u16; 128],
     rec: &[u16; 128],
     np: usize,
-    m: &mut [u16; CAPACITY],
+    m: &mut [u16; 4096],
 ) -> Verdict
-    requires { Fits d × Noted d plan.now np reach.old hot.now pil.now rec.now × (Fine ≡ grounds1to5 d plan.now) × (length m.old ≡ capacity) }
-    ensures { (result ≡ verdict d plan.now) × StudiedIf result d plan.now m.new × (length m.new ≡ capacity) }
+    requires { Fits d × Noted d plan.now np reach.now hot.now pil.now rec.now × (Fine ≡ grounds1to5 d plan.now) × (length m.old ≡ 4096) }
+    ensures { (result ≡ verdict d plan.now) × StudiedIf result d plan.now m.new × (length m.new ≡ 4096) }
 {
-    let mut lo = [0u16; RUNS];
-    let mut hi = [0u16; RUNS];
+    let mut lo = [0u16; 2048];
+    let mut hi = [0u16; 2048];
     let n = ranges::runs(reach, hot, d.subcarriers, &mut lo, &mut hi);
     let l = records::number_at(plan, 4);
     match markgrounds::grounds_6_to_8(d, plan, &lo, &hi, n, pil, rec, np, l, m) {
         Finding::Ground(g, k) => Verdict::Refused(g, k),
-        Finding::Fine => grounds::grounds_9_to_15(d, plan, &lo, &hi, n, m, reach),
+        Finding::Fine => grounds::grounds_9_to_15(d, plan, &lo, &hi, n, m),
     }
 }
 
@@ -43,14 +42,14 @@ pub fn study_from(
     plan: &[u8],
     from: usize,
     before: usize,
-    reach: &mut [u16; CAPACITY],
-    hot: &mut [u8; BLOCKS],
+    reach: &mut [u16; 4096],
+    hot: &mut [u8; 256],
     pil: &mut [u16; 128],
     rec: &mut [u16; 128],
-    m: &mut [u16; CAPACITY],
+    m: &mut [u16; 4096],
 ) -> Verdict
-    requires { Fits d × (bad_length plan.now ≡ false → Kept d plan.now (length plan.now / 8) from before reach.old hot.old pil.old rec.old) × (length m.old ≡ capacity) }
-    ensures { (result ≡ verdict d plan.now) × StudiedIf result d plan.now m.new × (length m.new ≡ capacity) }
+    requires { Fits d × (bad_length plan.now ≡ false → Kept d plan.now (length plan.now / 8) from before reach.old hot.old pil.old rec.old) × (length m.old ≡ 4096) }
+    ensures { (result ≡ verdict d plan.now) × StudiedIf result d plan.now m.new × (length m.new ≡ 4096) }
 {
     match plan::walk_chain(d, plan, from, before, reach, hot, pil, rec) {
         Chain::Bad(g, place) => Verdict::Refused(g, place),
@@ -59,12 +58,12 @@ pub fn study_from(
 }
 
 // Grounds 1 to 15 of any device that fits. Where the plan is accepted, m holds the mark of every subcarrier.
-pub fn study(d: Device, plan: &[u8], m: &mut [u16; CAPACITY]) -> Verdict
-    requires { Fits d × (length m.old ≡ capacity) }
-    ensures { (result ≡ verdict d plan.now) × StudiedIf result d plan.now m.new × (length m.new ≡ capacity) }
+pub fn study(d: Device, plan: &[u8], m: &mut [u16; 4096]) -> Verdict
+    requires { Fits d × (length m.old ≡ 4096) }
+    ensures { (result ≡ verdict d plan.now) × StudiedIf result d plan.now m.new × (length m.new ≡ 4096) }
 {
-    let mut reach = [0u16; CAPACITY];
-    let mut hot = [0u8; BLOCKS];
+    let mut reach = [0u16; 4096];
+    let mut hot = [0u8; 256];
     let mut pil = [0u16; 128];
     let mut rec = [0u16; 128];
     study_from(d, plan, 0, 0, &mut reach, &mut hot, &mut pil, &mut rec, m)

@@ -3,7 +3,7 @@
 // nothing and asks nothing of its caller.
 ghost use Rattle.std.specs.Prelude.{◌+◌, ◌-◌, ◌≤◌, ◌<◌, ◌≡◌, true, false};
 ghost use Rattle.rules.specs.declared.Finding.TheVariants.{Fine};
-ghost use Rattle.rules.specs.Device.{device_of};
+ghost use Rattle.rules.specs.Device.{khz50};
 ghost use Rattle.rules.specs.Fits.{Fits};
 ghost use Rattle.rules.specs.Plan.{plan_of};
 ghost use Rattle.rules.specs.Roles.{role, ranked};
@@ -108,7 +108,7 @@ fn scattered_phase(d: Device, plan: &[u8], k: usize) -> u32
     ensures { result ≡ scattered_phase d plan.now k }
 {
     let l = records::number_at(plan, 4);
-    pattern::phase_of(d.scatter_step, l + d.plc_width, k as u16) as u32
+    pattern::symbols_until(l + d.plc_width, k as u16) as u32
 }
 
 // The role of k at phase j, with its reason.
@@ -127,12 +127,12 @@ fn with_reason(d: Device, plan: &[u8], r: Role, k: usize, j: u32) -> WhyAnswer
 
 // The role of a subcarrier at a phase, and why.
 pub fn why(plan: &[u8], subcarrier: u32, phase: u32) -> WhyAnswer
-    ensures { result ≡ why_answer (device_of plan.now) plan.now subcarrier phase }
+    ensures { result ≡ why_answer khz50 plan.now subcarrier phase }
 {
     match judge::role(plan, subcarrier, phase) {
         RoleAnswer::Refused(g, place) => WhyAnswer::Refused(g, place),
         RoleAnswer::Is(r) => with_reason(
-            rules::device_of(plan),
+            rules::khz50_device(),
             plan,
             r,
             subcarrier as usize,

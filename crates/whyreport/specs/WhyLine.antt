@@ -1,7 +1,7 @@
 -- The line that says what a subcarrier is doing and why (document 02, Req 08: "prints .. the role and its ground"), as a list of ASCII bytes.
 -- The form is ours and stands in docs/WHYCHECK.md. Examples are in proofs/Examples.antt. Assumes nothing.
 use Rattle.std.specs.Prelude.{ℕ, List, [], ◌∷◌}
-use Rattle.rules.specs.Device.{device_of}
+use Rattle.rules.specs.Device.{khz50}
 use Rattle.text.specs.Text.{number_line, refused_line}
 use Rattle.rules.specs.declared.WhyAnswer.{WhyAnswer}
 use Rattle.rules.specs.declared.WhyAnswer.TheVariants.{ExcludedBy, PlcBy, PilotBelow, PilotAbove, PilotBy, ScatteredOnly, DataBut, Refused}
@@ -49,4 +49,4 @@ answer_line (Refused number place) = refused_line number place
 
 -- the line of subcarrier k at phase j of the plan s
 unfoldable pub why_line : List ℕ → ℕ → ℕ → List ℕ
-why_line s k j = answer_line (why_answer (device_of s) s k j)
+why_line s k j = answer_line (why_answer khz50 s k j)

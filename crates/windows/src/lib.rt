@@ -6,14 +6,13 @@ ghost use Rattle.counting.specs.Runs.{Singles};
 ghost use Rattle.counting.specs.Answer.{place_of};
 ghost use Rattle.rules.specs.Plan.{plan_of};
 ghost use Rattle.rules.specs.Bands.{excluded};
-ghost use Rattle.rules.specs.Fits.{Fits, capacity, bands_max, limit};
+ghost use Rattle.rules.specs.Fits.{Fits, capacity, limit};
 ghost use Rattle.bands.specs.BandList.{BandList};
 ghost use Rattle.limits.specs.Answers.{at_band};
 ghost use Rattle.windows.specs.Windows.{window_in};
 
-use bands::BANDS;
 use counting::{Found, wide};
-use rules::{CAPACITY, Device};
+use rules::Device;
 
 // The first subcarrier of the lowest window of `size` that ends at v and lies in a band from a on.
 fn window_start(v: usize, a: usize, size: usize) -> usize
@@ -29,7 +28,7 @@ fn window_start(v: usize, a: usize, size: usize) -> usize
 // The lowest window of `size` inside the band a to b that has more than `most` excluded.
 fn window_in(
     plan: &[u8],
-    x: &[u16; CAPACITY],
+    x: &[u16; 4096],
     from: usize,
     to: usize,
     a: usize,
@@ -58,15 +57,15 @@ fn window_in(
 pub fn first_window(
     d: Device,
     plan: &[u8],
-    a: &[u16; BANDS],
-    b: &[u16; BANDS],
-    c: &[u16; BANDS],
-    x: &[u16; CAPACITY],
+    a: &[u16; 256],
+    b: &[u16; 256],
+    c: &[u16; 256],
+    x: &[u16; 4096],
     m: usize,
     size: usize,
     most: usize,
 ) -> Found
-    requires { Fits d × BandList d (plan_of plan.now) a.now b.now c.now x.now m × (m < bands_max) × (size ≤ limit) × (most ≤ limit) }
+    requires { Fits d × BandList d (plan_of plan.now) a.now b.now c.now x.now m × (m < 256) × (size ≤ limit) × (most ≤ limit) }
     ensures { place_of result ≡ first (at_band (window_in (plan_of plan.now) size most) a.now b.now) m }
 {
     let mut j: usize = 0;

@@ -1,12 +1,11 @@
 -- `arrivals::scatter` meets its contract. The loop has put the pilots below k, which is the next one. Assumes nothing.
 use borrow.Author.Rules.{rules}
-use Prim.Native.Nat.{◌*◌, ◌-◌, ◌%◌, ◌≤◌}
+use Prim.Native.Nat.{◌-◌, ◌%◌, ◌≤◌}
 use mathlib.Core.Path.{◌≡◌, refl, sym, ap, ◌∙◌}
 use native.Mathlib.Nat.{mod-eq_of_lt, add-mod_right}
 use native.Mathlib.Omega.{arith}
 use lib.ListN.{length, get_or, length-set}
 use Rattle.rules.specs.Device.{phases}
-use Rattle.rules.specs.Fits.{capacity}
 use Rattle.counting.proofs.Stride.{Upto, stride_put}
 use Rattle.arrivals.specs.Expected.{scattered_mark, expected}
 use Rattle.arrivals.proofs.Expecting.{expected_in, expected_gap, expected_start}
@@ -14,7 +13,7 @@ use Rattle.arrivals.proofs.scatter.Statement.{statement}
 use Rattle.arrivals.proofs.scatter.Tie as tie
 
 abbrev invariant-loop : tie.invariant-loop
-invariant-loop marks₀ width base k₀ marks k = (length marks ≡ length marks₀) × (k % phases ≡ base) × (k ≤ 2 * capacity) × Upto width k (expected base marks₀) (λ q. get_or marks₀ q 0) marks
+invariant-loop marks₀ width base k₀ marks k = (length marks ≡ length marks₀) × (k % phases ≡ base) × (k ≤ 8192) × Upto width k (expected base marks₀) (λ q. get_or marks₀ q 0) marks
 
 abbrev decreases-loop : tie.decreases-loop
 decreases-loop marks₀ width base k₀ marks k = width - k

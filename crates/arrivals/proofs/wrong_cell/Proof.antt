@@ -41,11 +41,11 @@ first c = take_at c.limits2.new.1.0 (drop (length c.before.before.before.before.
 number-at-requires : tie.Need-number-at-requires
 number-at-requires c κs = search rules
 
-pattern-at-requires : tie.Need-pattern-at-requires
-unfolding plan_of
-pattern-at-requires c κs =
-    let g = c.before.before.before.before.before in
-    (g.requires.0, omega (arith, c.before.number_at.ensures.0, g.requires.1.plc_high), g.requires.2)
+add-scatter : tie.Need-overflow-add-scatter
+add-scatter c = search rules
+
+add-scatter-2 : tie.Need-overflow-add-scatter-2
+add-scatter-2 c = search rules
 
 scatter-requires : tie.Need-scatter-requires
 scatter-requires c κs = search rules
@@ -60,7 +60,7 @@ unfolding plan_of
 returns c =
     let g = c.before.before.before.before.before.before.before.before.before.before.before in
     let a = g.args in
-    none_wrong a.d (plan_of a.plan.now) a.profile.now a.marks.now c.before.before.before.before.scatter.new.0 a.symbol.now _ a.j _ c.before.before.before.before.before.before.before.number_at.ensures.0 c.before.before.before.before.before.pattern-at.ensures.0 g.requires.0 g.requires.1.marked c.before.before.before.before.scatter.ensures
+    none_wrong a.d (plan_of a.plan.now) a.profile.now a.marks.now c.before.before.before.before.scatter.new.0 a.symbol.now _ a.j c.before.before.before.before.before.before.before.number_at.ensures.0 g.requires.0 g.requires.1.marked c.before.before.before.before.scatter.ensures
     (λ k h. c.before.fit-one-load.ensures c.if1.true k (omega (arith, h, g.requires.3)))
 
 array-borrow-prefix-limits : tie.Need-array-borrow-prefix-limits
@@ -92,7 +92,7 @@ returns-2 c =
     let k = c.before.before.before.before.before in
     c.first-wrong.ensures
     ∙ ap (lowest _) g.requires.3
-    ∙ wrong_is a.d (plan_of a.plan.now) a.profile.now _ a.marks.now _ a.symbol.now _ a.j _ c.before.before.before.before.before.before.before.before.before.before.before.before.before.before.number_at.ensures.0 c.before.before.before.before.before.before.before.before.before.before.before.before.pattern-at.ensures.0 g.requires.0 g.requires.1.marked c.before.before.before.before.before.before.before.before.before.before.before.scatter.ensures
+    ∙ wrong_is a.d (plan_of a.plan.now) a.profile.now _ a.marks.now _ a.symbol.now _ a.j c.before.before.before.before.before.before.before.before.before.before.before.before.before.before.number_at.ensures.0 g.requires.0 g.requires.1.marked c.before.before.before.before.before.before.before.before.before.before.before.scatter.ensures
     (λ i h. ap (λ (l : List ℕ). get_or l i 0) (first k) ∙ (put k).1 i (omega (arith, h, (listed g).long)))
 
 pub wrong_cell_spec : {M : Type 1} → statement M
@@ -100,7 +100,8 @@ wrong_cell_spec =
     tie.close
     (tie.spec
     number-at-requires
-    pattern-at-requires
+    add-scatter
+    add-scatter-2
     scatter-requires
     fit-one-load-requires
     returns

@@ -112,7 +112,7 @@ push-requires : tie.Need-push-requires invariant-loop decreases-loop
 push-requires c κs =
     let t = turn c.before.before.before in
     let l = c.before.before.before.before.before.before.before.before in
-    (omega (arith, l.loop.invariant.lx, t.0, t.1, t.2), omega (arith, t.0, t.1, t.2), omega (arith, t.0, t.1, t.2), omega (arith, t.0, t.1, t.2))
+    (l.loop.invariant.lx, omega (arith, t.0, t.1, t.2), omega (arith, t.0, t.1, t.2), omega (arith, t.0, t.1, t.2))
 
 loop-less-2 : tie.Need-loop-smaller-2 invariant-loop decreases-loop
 loop-less-2 c = search rules
@@ -123,7 +123,7 @@ loop-again-2 c =
     let l = t.before.before.before.before.before in
     let g = l.before.before.before.before.before.before in
     let k = turn t in
-    turn_short _ _ _ _ _ g.requires.0 g.requires.1 _ _ _ _ _ _ _ _ _ _ _ _ _ l.loop.invariant t.before.before.before.before.loop-test.true k.1 k.2 c.before.before.before.separates.ensures c.before.before.if1.false c.push.ensures.0 c.push.ensures.1 (omega (arith, c.push.ensures.2, l.loop.invariant.lx))
+    turn_short _ _ _ _ _ g.requires.0 g.requires.1 _ _ _ _ _ _ _ _ _ _ _ _ _ l.loop.invariant t.before.before.before.before.loop-test.true k.1 k.2 c.before.before.before.separates.ensures c.before.before.if1.false c.push.ensures.0 c.push.ensures.1 c.push.ensures.2
 
 returns : tie.Need-returns invariant-loop decreases-loop
 returns c =

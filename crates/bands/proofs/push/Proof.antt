@@ -1,23 +1,24 @@
 -- `bands::push` meets its contract. The loop keeps that the numbers below y are put. Assumes nothing.
 use borrow.Author.Rules.{rules}
-use mathlib.Core.Path.{◌≡◌, refl, ◌∙◌, subst}
+use mathlib.Core.Path.{◌≡◌, ◌∙◌, subst}
 use Prim.Native.Nat.{ℕ, ◌+◌, ◌-◌, ◌≤◌}
 use native.Mathlib.Nat.{le_antisymm}
 use native.Mathlib.Omega.{arith}
 use lib.ListN.{length, length-set}
+use Rattle.rules.specs.Fits.{capacity}
 use Rattle.bands.specs.BandList.{Pushed}
 use Rattle.bands.proofs.PushLaws.{push_start, push_more}
 use Rattle.bands.proofs.push.Statement.{statement}
 use Rattle.bands.proofs.push.Tie as tie
 
 abbrev invariant-loop : tie.invariant-loop
-invariant-loop x₀ at e u y₀ q₀ x y q = (length x ≡ length x₀) × (e ≤ y) × (y ≤ u) × (q ≡ at + (y - e)) × Pushed x₀ x at e y
+invariant-loop x₀ at e u y₀ q₀ x y q = (length x ≡ capacity) × (e ≤ y) × (y ≤ u) × (q ≡ at + (y - e)) × Pushed x₀ x at e y
 
 abbrev decreases-loop : tie.decreases-loop
 decreases-loop x₀ at e u y₀ q₀ x y q = u - y
 
 loop-holds : tie.Need-loop-init invariant-loop decreases-loop
-loop-holds c = (refl, omega arith, omega (arith, c.requires.1), omega arith, push_start _ _ _)
+loop-holds c = (c.requires.0, omega arith, omega (arith, c.requires.1), omega arith, push_start _ _ _)
 
 cast-x : tie.Need-overflow-cast-x invariant-loop decreases-loop
 cast-x c = search rules
@@ -44,7 +45,7 @@ loop-again c =
       omega (arith, v.invariant.1),
       omega arith,
       omega (arith, v.invariant.1, v.invariant.3),
-      push_more _ _ _ _ _ _ v.invariant.4 v.invariant.1 v.invariant.3 (omega (arith, v.invariant.0, v.invariant.3, c.before.before.requires.0)),
+      push_more _ _ _ _ _ _ v.invariant.4 v.invariant.1 v.invariant.3 (omega (arith, v.invariant.0, v.invariant.3, c.before.before.requires.3)),
     )
 
 returns : tie.Need-returns invariant-loop decreases-loop

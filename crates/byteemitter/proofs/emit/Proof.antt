@@ -2,7 +2,7 @@
 use borrow.Author.Rules.{rules}
 use mathlib.Core.Path.{◌≡◌, sym, ◌∙◌}
 use mathlib.Core.Bool.{false, ◌||◌}
-use Rattle.rules.specs.Device.{device_of}
+use Rattle.rules.specs.Device.{khz50}
 use Rattle.rules.specs.Steps.{emit_step}
 use Rattle.bytecells.specs.Octets.{odd}
 use Rattle.byteemitter.proofs.ByteAnswers.{emit_odd, emit_whole}
@@ -28,7 +28,7 @@ same_length c = search rules
 returns : tie.Need-returns
 returns c =
     let a = c.before.before.before.before.before.before.before.before.args in
-    emit_odd (device_of a.plan.now) a.plan.now a.profile.now a.state a.store.now a.symbol.now a.input.now (λ i. (sym c.before.halved.ensures.0 ∙ c.if1.true) i || odd a.input.now || odd a.symbol.now)
+    emit_odd khz50 a.plan.now a.profile.now a.state a.store.now a.symbol.now a.input.now (λ i. (sym c.before.halved.ensures.0 ∙ c.if1.true) i || odd a.input.now || odd a.symbol.now)
 
 halved-requires-2 : tie.Need-halved-requires-2
 halved-requires-2 c κs = search rules
@@ -39,7 +39,7 @@ same-length-2 c = search rules
 returns-2 : tie.Need-returns-2
 returns-2 c =
     let a = c.before.before.before.before.before.before.before.before.before.before.args in
-    emit_odd (device_of a.plan.now) a.plan.now a.profile.now a.state a.store.now a.symbol.now a.input.now
+    emit_odd khz50 a.plan.now a.profile.now a.state a.store.now a.symbol.now a.input.now
     (λ i. even_store c.before.before i || (sym c.before.halved2.ensures.0 ∙ c.if2.true) i || odd a.symbol.now)
 
 halved-requires-3 : tie.Need-halved-requires-3
@@ -54,7 +54,7 @@ same-length-4 c = search rules
 returns-3 : tie.Need-returns-3
 returns-3 c =
     let a = c.before.before.before.before.before.before.before.before.before.before.before.before.before.args in
-    emit_odd (device_of a.plan.now) a.plan.now a.profile.now a.state a.store.now a.symbol.now a.input.now
+    emit_odd khz50 a.plan.now a.profile.now a.state a.store.now a.symbol.now a.input.now
     (λ i. even_store c.before.before.before.before.before i || even_input c.before.before.before i || (sym c.before.halved3.ensures.0 ∙ c.if3.true) i)
 
 send-requires : tie.Need-send-requires
@@ -71,7 +71,7 @@ unfolding emit_step
 returns-4 c =
     let a = c.before.before.before.before.before.before.before.before.before.before.before.before.before.before.before.before.before.before.before.before.args in
     c.before.before.before.before.send.ensures
-    ∙ emit_whole (device_of a.plan.now) a.plan.now a.profile.now a.state a.store.now a.symbol.now a.input.now
+    ∙ emit_whole khz50 a.plan.now a.profile.now a.state a.store.now a.symbol.now a.input.now
     (λ i. even_store c.before.before.before.before.before.before.before.before.before.before.before.before i || even_input c.before.before.before.before.before.before.before.before.before.before i || even_symbol c.before.before.before.before.before.before.before i)
 
 pub emit_spec : {M : Type 1} → statement M

@@ -2,7 +2,7 @@
 use borrow.Author.Rules.{rules}
 use mathlib.Core.Path.{◌≡◌, sym, ◌∙◌}
 use mathlib.Core.Bool.{false, ◌||◌}
-use Rattle.rules.specs.Device.{device_of}
+use Rattle.rules.specs.Device.{khz50}
 use Rattle.rules.specs.Steps.{flush_step}
 use Rattle.bytecells.specs.Octets.{odd}
 use Rattle.byteemitter.proofs.ByteAnswers.{none_whole, flush_odd, flush_whole}
@@ -25,7 +25,7 @@ same_length c = search rules
 returns : tie.Need-returns
 returns c =
     let a = c.before.before.before.before.before.before.args in
-    flush_odd (device_of a.plan.now) a.plan.now a.state a.store.now a.symbol.now (λ i. (sym c.before.halved.ensures.0 ∙ c.if1.true) i || odd a.symbol.now)
+    flush_odd khz50 a.plan.now a.state a.store.now a.symbol.now (λ i. (sym c.before.halved.ensures.0 ∙ c.if1.true) i || odd a.symbol.now)
 
 halved-requires-2 : tie.Need-halved-requires-2
 halved-requires-2 c κs = search rules
@@ -39,7 +39,7 @@ same-length-3 c = search rules
 returns-2 : tie.Need-returns-2
 returns-2 c =
     let a = c.before.before.before.before.before.before.before.before.before.args in
-    flush_odd (device_of a.plan.now) a.plan.now a.state a.store.now a.symbol.now
+    flush_odd khz50 a.plan.now a.state a.store.now a.symbol.now
     (λ i. even_store c.before.before.before i || (sym c.before.halved2.ensures.0 ∙ c.if2.true) i)
 
 array-share-prefix-no-profile : tie.Need-array-share-prefix-no-profile
@@ -68,7 +68,7 @@ unfolding flush_step
 returns-3 c =
     let a = c.before.before.before.before.before.before.before.before.before.before.before.before.before.before.before.before.before.before.args in
     c.before.before.before.before.send.ensures
-    ∙ flush_whole (device_of a.plan.now) a.plan.now a.state a.store.now a.symbol.now
+    ∙ flush_whole khz50 a.plan.now a.state a.store.now a.symbol.now
     (λ i. even_store c.before.before.before.before.before.before.before.before.before.before.before.before i || even_symbol c.before.before.before.before.before.before.before.before.before i)
 
 pub flush_spec : {M : Type 1} → statement M

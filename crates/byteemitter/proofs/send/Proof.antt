@@ -15,6 +15,7 @@ use Rattle.rules.specs.Plan.{plan_of}
 use Rattle.rules.specs.Frame.{Frame, frame_of, line_symbol}
 use Rattle.rules.specs.Store.{emitter_places}
 use Rattle.rules.specs.Steps.{Emitter, Send}
+use Rattle.rules.proofs.Sizes.{khz50_fits}
 use Rattle.places.proofs.Sizes.{emitter_places_are}
 use Rattle.steps.proofs.Accepted.{cells_low}
 use Rattle.steps.proofs.Lent.{Lent}
@@ -36,12 +37,12 @@ abbrev asked : tie.Start → Send
 asked g = giving (given_by g.args.flushing (cells_of g.args.input.now)) g.args.profile.now (cells_of g.args.symbol.now)
 
 -- the frame of the plan
-abbrev frame : tie.After-device-of → Frame
-frame c = frame_of c.device-of.result (plan_of c.before.before.before.before.before.before.args.plan.now)
+abbrev frame : tie.After-khz50-device → Frame
+frame c = frame_of c.khz50-device.result (plan_of c.before.before.before.before.before.before.args.plan.now)
 
 -- what `admit` says of the step under a verdict
 Said : tie.After-admit → Verdict → Type 0
-Said c r = let g = c.before.before.before.before.before.before.before.before.before.before.before.before.before.before in let last = c.admit.new.1.1.1.1.1.1.1.1.1 in SendOpens r false c.before.before.before.before.before.before.before.before.device-of.result g.args.plan.now (emitter g) (asked g) last.0 last.1.0 last.1.1.0
+Said c r = let g = c.before.before.before.before.before.before.before.before.before.before.before.before.before.before in let last = c.admit.new.1.1.1.1.1.1.1.1.1 in SendOpens r false c.before.before.before.before.before.before.before.before.khz50-device.result g.args.plan.now (emitter g) (asked g) last.0 last.1.0 last.1.1.0
 
 said : (c : tie.After-admit) → Said c c.admit.result
 unfolding Said
@@ -62,7 +63,7 @@ low : (c : tie.After-n) → c.n.given.0.0 ≤ capacity
 unfolding Said
 low c =
     let r = (taken c).1.ready in
-    omega (arith, r.all, cells_low c.before.before.before.before.before.before.before.before.before.before.before.device-of.result (plan_of c.before.before.before.before.before.before.before.before.before.before.before.before.before.before.before.before.before.args.plan.now) r.fits)
+    omega (arith, r.all, cells_low c.before.before.before.before.before.before.before.before.before.before.before.khz50-device.result (plan_of c.before.before.before.before.before.before.before.before.before.before.before.before.before.before.before.before.before.args.plan.now) r.fits)
 
 -- so many are the first ones
 part : (c : tie.After-n) → length (take c.n.given.0.0 c.before.before.before.admit.new.1.1.1.1.1.1.1.1.1.1.1.0) ≡ c.n.given.0.0
@@ -79,14 +80,14 @@ front c = take_at c.delay.new.1.1.0 (drop c.before.before.before.before.before.n
 -- grounds 16 and 17 are passed, and m is the depth
 lent : (c : tie.After-number-at) → let g = c.before.before.before.before.before.before.before.before.before.before.before.before.before.before.before.before.before.before.before in Lent (frame c.before.before.before.before.before.before.before.before.before.before.before.before.before) g.args.state.phase (emitter_places (frame c.before.before.before.before.before.before.before.before.before.before.before.before.before)) (cells_of g.args.store.now) (cells_of g.args.symbol.now)
 unfolding Said
-lent c = let g = c.before.before.before.before.before.before.before.before.before.before.before.before.before.before.before.before.before.before.before in (fit false c.before.before.before.before.before.before.before.before.before.before.before.before.before.device-of.result g.args.plan.now (emitter g) (asked g) c.before.before.n.given.0.0 (taken c.before.before).0).0
+lent c = let g = c.before.before.before.before.before.before.before.before.before.before.before.before.before.before.before.before.before.before.before in (fit false c.before.before.before.before.before.before.before.before.before.before.before.before.before.khz50-device.result g.args.plan.now (emitter g) (asked g) c.before.before.n.given.0.0 (taken c.before.before).0).0
 
 deep : (c : tie.After-number-at) → c.number_at.result ≡ (plan_of c.before.before.before.before.before.before.before.before.before.before.before.before.before.before.before.before.before.before.before.args.plan.now).depth
 unfolding plan_of
 deep c = c.number_at.ensures.0
 
-device-of-requires : tie.Need-device-of-requires
-device-of-requires c κs = search rules
+khz50-device-requires : tie.Need-khz50-device-requires
+khz50-device-requires c κs = search rules
 
 slice-aggregate-read-first : tie.Need-slice-aggregate-read-first
 slice-aggregate-read-first c = search rules
@@ -102,9 +103,9 @@ slice-aggregate-admit-2 c = search rules
 
 admit-requires : tie.Need-admit-requires
 admit-requires c κs =
-    let is = c.before.before.before.before.before.before.before.device-of.ensures.0 in
+    let is = c.before.before.before.before.before.before.before.khz50-device.ensures in
     let wide = ap (λ (d : Device). d.subcarriers) is in
-    (c.before.before.before.before.before.before.before.device-of.ensures.1, c.before.before.before.before.before.before.before.device-of.ensures.2, λ h. omega (arith, h, wide, c.before.before.before.before.before.read_first.auto.1.0), refl, refl, omega (arith, wide))
+    (subst Fits (sym is) khz50_fits, omega (arith, ap (λ (d : Device). d.depth_max) is), λ h. omega (arith, h, wide, c.before.before.before.before.before.read_first.auto.1.0), refl, refl, omega (arith, wide))
 
 enum-known-g : tie.Need-enum-known-g
 enum-known-g c = search rules
@@ -153,7 +154,7 @@ place-requires c κs =
     let made = (taken c.before.before.before.before.before.before.before.before.before.before.before.before).1 in
     let r = made.ready in
     let size = sym (slice-aggregate-place-2 c.before) in
-    (r.fits, r.studied, made.whole, size ∙ r.all, whole_length g.args.symbol.now g.requires.2 ∙ ap (λ (n : ℕ). 2 * n) (lent c.before.before.before.before.before.before.before.before.before.before).whole, λ i h. made.ranks i (omega (arith, h, size)))
+    (r.fits, r.studied, ap (λ (d : Device). d.subcarriers) c.before.before.before.before.before.before.before.before.before.before.before.before.before.before.before.before.before.before.before.before.before.before.before.khz50-device.ensures, made.whole, size ∙ r.all, whole_length g.args.symbol.now g.requires.2 ∙ ap (λ (n : ℕ). 2 * n) (lent c.before.before.before.before.before.before.before.before.before.before).whole, λ i h. made.ranks i (omega (arith, h, size)))
 
 next-state-requires : tie.Need-next-state-requires
 unfolding Said frame_of
@@ -164,10 +165,10 @@ unfolding Said
 returns c =
     let g = c.before.before.before.before.before.before.before.before.before.before.before.before.before.before.before.before.before.before in
     let a = g.args in
-    let d = c.before.before.before.before.before.before.before.before.before.before.before.before.device-of in
+    let d = c.before.before.before.before.before.before.before.before.before.before.before.before.khz50-device in
     unchanged _ a.store.now a.symbol.now _ g.requires.0 g.requires.2
     (refused false d.result a.plan.now (emitter g) (asked g) _ _ (sym c.before.g.given.1 ∙ (said c.before.before.before.before).0))
-    ∙ ap (λ (d : Device). sent_bytes (step_by d a.plan.now a.profile.now a.flushing a.state (cells_of a.store.now) (cells_of a.input.now) (cells_of a.symbol.now))) d.ensures.0
+    ∙ ap (λ (d : Device). sent_bytes (step_by d a.plan.now a.profile.now a.flushing a.state (cells_of a.store.now) (cells_of a.input.now) (cells_of a.symbol.now))) d.ensures
 
 same_length : tie.Need-same-length
 same_length c = search rules
@@ -180,19 +181,19 @@ unfolding Said
 returns-2 c =
     let g = c.before.before.before.before.before.before.before.before.before.before.before.before.before.before.before.before.before.before.before.before.before.before.before.before.before.before.before.before.before.before.before.before.before in
     let a = g.args in
-    let d = c.before.before.before.before.before.before.before.before.before.before.before.before.before.before.before.before.before.before.before.before.before.before.before.before.before.before.before.device-of in
+    let d = c.before.before.before.before.before.before.before.before.before.before.before.before.before.before.before.before.before.before.before.before.before.before.before.before.before.before.before.khz50-device in
     let put = c.before.before.before.before.before.before.before.before.before.before.before.delay.ensures in
     let step = taken c.before.before.before.before.before.before.before.before.before.before.before.before.before.before.before.before in
     as_bytes _ _ _ _ _ _ put.0
     (c.before.before.before.place.ensures ∙ ap (λ (x : List ℕ). bytes_of (line_symbol (frame_of d.result (plan_of a.plan.now)) x)) (front c.before.before.before.before.before.before.before.before.before.before.before ∙ put.1))
     (sent d.result a.plan.now (emitter g) (asked g) _ step.0 _ _ _ _ _ _ (deep c.before.before.before.before.before.before.before.before.before.before.before.before.before.before) (part c.before.before.before.before.before.before.before.before.before.before.before.before.before.before.before.before) step.1.input refl refl c.next-state.ensures)
-    ∙ ap (λ (d : Device). sent_bytes (step_by d a.plan.now a.profile.now a.flushing a.state (cells_of a.store.now) (cells_of a.input.now) (cells_of a.symbol.now))) d.ensures.0
+    ∙ ap (λ (d : Device). sent_bytes (step_by d a.plan.now a.profile.now a.flushing a.state (cells_of a.store.now) (cells_of a.input.now) (cells_of a.symbol.now))) d.ensures
 
 pub send_spec : {M : Type 1} → statement M
 send_spec =
     tie.close
     (tie.spec
-    device-of-requires
+    khz50-device-requires
     slice-aggregate-read-first
     read-first-requires
     slice-aggregate-admit

@@ -10,11 +10,12 @@ use lib.Seq.{length-take-le}
 use Rattle.rules.specs.declared.Device.{Device}
 use Rattle.rules.specs.declared.CountAnswer.{CountAnswer}
 use Rattle.rules.specs.declared.CountAnswer.TheVariants.{Count}
-use Rattle.rules.specs.Device.{device_of}
-use Rattle.rules.specs.Fits.{capacity}
+use Rattle.rules.specs.Device.{khz50}
+use Rattle.rules.specs.Fits.{Fits}
 use Rattle.rules.specs.Plan.{plan_of}
 use Rattle.rules.specs.Frame.{frame_of}
 use Rattle.rules.specs.Bits.{filled_from}
+use Rattle.rules.proofs.Sizes.{khz50_fits}
 use Rattle.bytecells.specs.Octets.{cells_of, bytes_of, odd}
 use Rattle.bytecells.specs.ByteSteps.{fill_bytes}
 use Rattle.bytecells.proofs.OctetLaws.{length_cells, whole_length}
@@ -31,7 +32,7 @@ even c = sym c.before.halved.ensures.0 ∙ c.if1.false
 
 -- what was measured, of so many cells
 abbrev device : tie.After-need → Device
-device c = c.before.before.before.before.before.device-of.result
+device c = c.before.before.before.before.before.khz50-device.result
 
 Counts : tie.After-need → ℕ → Type 0
 Counts c n = let a = c.before.before.before.before.before.before.before.before.before.before.before.before.before.args in (Count c.need.given.0.0 ≡ measure (device c) a.plan.now a.profile.now a.phase n (length a.stream.now) a.start) × Measured (frame_of (device c) (plan_of a.plan.now)) a.profile.now a.phase n (length a.stream.now) a.start c.before.before.before.measure.new.1.1.1.1.1.1.1.0
@@ -43,7 +44,7 @@ said c =
     let m = c.before.before.before.measure in
     (sym c.need.given.1 ∙ m.ensures.0, subst (λ (r : CountAnswer). MeasuredIf r (frame_of (device c) (plan_of a.plan.now)) a.profile.now a.phase (length c.before.before.before.before.before.before.before.before.before.before.before.before.before.args.input.now / 2) (length a.stream.now) a.start m.new.1.1.1.1.1.1.1.0) c.need.given.1 m.ensures.1)
 
-few : (c : tie.After-need) (n : ℕ) → n ≡ length c.before.before.before.before.before.before.before.before.before.before.before.before.before.args.input.now / 2 → n ≤ capacity
+few : (c : tie.After-need) (n : ℕ) → n ≡ length c.before.before.before.before.before.before.before.before.before.before.before.before.before.args.input.now / 2 → n ≤ 4096
 unfolding Counts
 few c n e = omega (arith, e, (said c).1.few, c.before.before.before.measure.auto.1.1.1.1.1.1.1.0)
 
@@ -54,16 +55,16 @@ same_length : tie.Need-same-length
 same_length c = search rules
 
 returns : tie.Need-returns
-returns c = let a = c.before.before.before.before.before.before.before.args in fill_odd (device_of a.plan.now) a.plan.now a.profile.now a.phase a.stream.now a.start a.input.now (sym c.before.halved.ensures.0 ∙ c.if1.true)
+returns c = let a = c.before.before.before.before.before.before.before.args in fill_odd khz50 a.plan.now a.profile.now a.phase a.stream.now a.start a.input.now (sym c.before.halved.ensures.0 ∙ c.if1.true)
 
-device-of-requires : tie.Need-device-of-requires
-device-of-requires c κs = search rules
+khz50-device-requires : tie.Need-khz50-device-requires
+khz50-device-requires c κs = search rules
 
 slice-aggregate-measure : tie.Need-slice-aggregate-measure
 slice-aggregate-measure c = search rules
 
 measure-requires : tie.Need-measure-requires
-measure-requires c κs = (c.before.device-of.ensures.1, c.before.device-of.ensures.2, omega arith)
+measure-requires c κs = let is = c.before.khz50-device.ensures in (subst Fits (sym is) khz50_fits, omega (arith, ap (λ (d : Device). d.depth_max) is), omega arith)
 
 enum-known-g : tie.Need-enum-known-g
 enum-known-g c = search rules
@@ -102,11 +103,11 @@ returns-2 : tie.Need-returns-2
 returns-2 c =
     let m = c.before.before.before.before in
     let a = m.before.before.before.before.before.before.before.before.before.before.args in
-    let d = m.before.before.device-of in
+    let d = m.before.before.khz50-device in
     let h = m.before.before.before in
     fill_stays d.result a.plan.now a.profile.now a.phase a.stream.now a.start a.input.now (even h) (h.before.halved.ensures.1 h.if1.false) _
     (fill_refused d.result a.plan.now a.profile.now a.phase a.stream.now a.start (cells_of a.input.now) _ _ (sym c.before.g.given.1 ∙ m.measure.ensures.0 ∙ ap (λ (n : ℕ). measure d.result a.plan.now a.profile.now a.phase n (length a.stream.now) a.start) (sym (length_cells a.input.now))))
-    ∙ ap (λ (d : Device). fill_bytes d a.plan.now a.profile.now a.phase a.stream.now a.start a.input.now) d.ensures.0
+    ∙ ap (λ (d : Device). fill_bytes d a.plan.now a.profile.now a.phase a.stream.now a.start a.input.now) d.ensures
 
 same-length-3 : tie.Need-same-length-3
 same-length-3 c = search rules
@@ -121,7 +122,7 @@ returns-3 c =
     fill_left (device k) a.plan.now a.profile.now a.phase a.stream.now a.start a.input.now (even k.before.before.before.before.before.before) _ _ _ c.before.before.fill-into.ensures
     (fill_counted (device k) a.plan.now a.profile.now a.phase a.stream.now a.start (cells_of a.input.now) _ _ ((said k).0 ∙ ap (λ (n : ℕ). measure (device k) a.plan.now a.profile.now a.phase n (length a.stream.now) a.start) (sym (length_cells a.input.now)))
     (fill_start _ a.start _ b.none b.some a.stream.now ∙ ap (λ (ls : List ℕ). filled_from ls a.stream.now a.start) (said k).1.these))
-    ∙ ap (λ (d : Device). fill_bytes d a.plan.now a.profile.now a.phase a.stream.now a.start a.input.now) k.before.before.before.before.before.device-of.ensures.0
+    ∙ ap (λ (d : Device). fill_bytes d a.plan.now a.profile.now a.phase a.stream.now a.start a.input.now) k.before.before.before.before.before.khz50-device.ensures
 
 pub fill_spec : {M : Type 1} → statement M
 fill_spec =
@@ -130,7 +131,7 @@ fill_spec =
     halved-requires
     same_length
     returns
-    device-of-requires
+    khz50-device-requires
     slice-aggregate-measure
     measure-requires
     enum-known-g

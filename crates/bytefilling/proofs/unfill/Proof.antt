@@ -10,12 +10,13 @@ use lib.Seq.{length-take-le}
 use Rattle.rules.specs.declared.Device.{Device}
 use Rattle.rules.specs.declared.CountAnswer.{CountAnswer}
 use Rattle.rules.specs.declared.CountAnswer.TheVariants.{Count}
-use Rattle.rules.specs.Device.{device_of}
-use Rattle.rules.specs.Fits.{capacity}
+use Rattle.rules.specs.Device.{khz50}
+use Rattle.rules.specs.Fits.{Fits}
 use Rattle.rules.specs.Plan.{plan_of}
 use Rattle.rules.specs.Frame.{frame_of}
 use Rattle.rules.specs.Bits.{total}
 use Rattle.rules.specs.Filling.{bit_count}
+use Rattle.rules.proofs.Sizes.{khz50_fits}
 use Rattle.bytecells.specs.Octets.{cells_of, odd}
 use Rattle.bytecells.specs.ByteSteps.{unfill_bytes}
 use Rattle.filling.specs.Measured.{measure, Measured, MeasuredIf}
@@ -31,7 +32,7 @@ even c = sym c.before.halved.ensures.0 ∙ c.if1.false
 
 -- what was measured, of so many cells
 abbrev device : tie.After-need → Device
-device c = c.before.before.before.before.before.before.before.before.device-of.result
+device c = c.before.before.before.before.before.before.before.before.khz50-device.result
 
 Counts : tie.After-need → ℕ → Type 0
 Counts c n = let a = c.before.before.before.before.before.before.before.before.before.before.before.before.before.before.before.args in (Count c.need.given.0.0 ≡ measure (device c) a.plan.now a.profile.now a.phase n (length a.stream.now) a.start) × Measured (frame_of (device c) (plan_of a.plan.now)) a.profile.now a.phase n (length a.stream.now) a.start c.before.before.before.measure.new.1.1.1.1.1.1.1.0
@@ -44,7 +45,7 @@ said c =
     (sym c.need.given.1 ∙ m.ensures.0, subst (λ (r : CountAnswer). MeasuredIf r (frame_of (device c) (plan_of a.plan.now)) a.profile.now a.phase c.before.before.before.before.before.before.read_first.result (length a.stream.now) a.start m.new.1.1.1.1.1.1.1.0) c.need.given.1 m.ensures.1)
 
 -- they fit both arrays
-few : (c : tie.After-need) (n : ℕ) → n ≡ c.before.before.before.before.before.before.read_first.result → n ≤ capacity
+few : (c : tie.After-need) (n : ℕ) → n ≡ c.before.before.before.before.before.before.read_first.result → n ≤ 4096
 unfolding Counts
 few c n e = omega (arith, e, (said c).1.few, c.before.before.before.measure.auto.1.1.1.1.1.1.1.0)
 
@@ -55,10 +56,10 @@ halved-requires : tie.Need-halved-requires
 halved-requires c κs = search rules
 
 returns : tie.Need-returns
-returns c = let a = c.before.before.before.before.before.before.args in unfill_odd (device_of a.plan.now) a.plan.now a.profile.now a.phase a.input.now a.start a.stream.now (sym c.before.halved.ensures.0 ∙ c.if1.true)
+returns c = let a = c.before.before.before.before.before.before.args in unfill_odd khz50 a.plan.now a.profile.now a.phase a.input.now a.start a.stream.now (sym c.before.halved.ensures.0 ∙ c.if1.true)
 
-device-of-requires : tie.Need-device-of-requires
-device-of-requires c κs = search rules
+khz50-device-requires : tie.Need-khz50-device-requires
+khz50-device-requires c κs = search rules
 
 slice-aggregate-read-first : tie.Need-slice-aggregate-read-first
 slice-aggregate-read-first c = search rules
@@ -70,7 +71,7 @@ slice-aggregate-measure : tie.Need-slice-aggregate-measure
 slice-aggregate-measure c = search rules
 
 measure-requires : tie.Need-measure-requires
-measure-requires c κs = (c.before.before.before.before.device-of.ensures.1, c.before.before.before.before.device-of.ensures.2, omega arith)
+measure-requires c κs = let is = c.before.before.before.before.khz50-device.ensures in (subst Fits (sym is) khz50_fits, omega (arith, ap (λ (d : Device). d.depth_max) is), omega arith)
 
 enum-known-g : tie.Need-enum-known-g
 enum-known-g c = search rules
@@ -107,11 +108,11 @@ returns-2 : tie.Need-returns-2
 returns-2 c =
     let m = c.before.before.before.before in
     let a = m.before.before.before.before.before.before.before.before.before.before.before.before.args in
-    let d = m.before.before.before.before.before.device-of in
+    let d = m.before.before.before.before.before.khz50-device in
     let read = m.before.before.before.read_first in
     unfill_refused d.result a.plan.now a.profile.now a.phase (cells_of a.input.now) a.start a.stream.now _ _ (sym c.before.g.given.1 ∙ m.measure.ensures.0 ∙ ap (λ (n : ℕ). measure d.result a.plan.now a.profile.now a.phase n (length a.stream.now) a.start) read.ensures.0)
     ∙ unfill_whole d.result a.plan.now a.profile.now a.phase a.input.now a.start a.stream.now (even m.before.before.before.before.before.before)
-    ∙ ap (λ (d : Device). unfill_bytes d a.plan.now a.profile.now a.phase a.input.now a.start a.stream.now) d.ensures.0
+    ∙ ap (λ (d : Device). unfill_bytes d a.plan.now a.profile.now a.phase a.input.now a.start a.stream.now) d.ensures
 
 same_length : tie.Need-same-length
 same_length c = search rules
@@ -126,7 +127,7 @@ returns-3 c =
     ∙ ap (λ (x : List ℕ). measured.put_back (take read.result k.before.before.before.measure.new.1.1.1.1.1.1.1.0) x k.need.given.0.0 a.stream.now a.start) (read.ensures.1 (few k _ refl))
     ∙ unfill_put (device k) a.plan.now a.profile.now a.phase (cells_of a.input.now) a.start a.stream.now _ _ ((said k).0 ∙ ap (λ (n : ℕ). measure (device k) a.plan.now a.profile.now a.phase n (length a.stream.now) a.start) read.ensures.0) (said k).1.these
     ∙ unfill_whole (device k) a.plan.now a.profile.now a.phase a.input.now a.start a.stream.now (even k.before.before.before.before.before.before.before.before.before)
-    ∙ ap (λ (d : Device). unfill_bytes d a.plan.now a.profile.now a.phase a.input.now a.start a.stream.now) k.before.before.before.before.before.before.before.before.device-of.ensures.0
+    ∙ ap (λ (d : Device). unfill_bytes d a.plan.now a.profile.now a.phase a.input.now a.start a.stream.now) k.before.before.before.before.before.before.before.before.khz50-device.ensures
 
 pub unfill_spec : {M : Type 1} → statement M
 unfill_spec =
@@ -134,7 +135,7 @@ unfill_spec =
     (tie.spec
     halved-requires
     returns
-    device-of-requires
+    khz50-device-requires
     slice-aggregate-read-first
     read-first-requires
     slice-aggregate-measure

@@ -48,13 +48,16 @@ write-same-requires c κs = omega (arith, need c, c.before.before.before.before.
 add-put-placeholders : tie.Need-overflow-add-put-placeholders
 add-put-placeholders c = search rules
 
+add-put-placeholders-2 : tie.Need-overflow-add-put-placeholders-2
+add-put-placeholders-2 c = search rules
+
 put-placeholders-requires : tie.Need-put-placeholders-requires
 put-placeholders-requires c κs =
     let made = c.before.before.before.before.before in
     let g = made.before.before.before.before.before.before.before in
     let w = g.requires.0 in
     let m = deep made.before.before in
-    (omega (arith, m, w.deep), omega (arith, m, w.shallow), w.fits.step, g.requires.1, w.few, rw (filled c.before.before.before.before) (bytes_whole _), omega (arith, made.emitter_places_lem.ensures, need made, g.requires.3, c.before.before.before.before.write_same.auto.0))
+    (omega (arith, m, w.deep), omega (arith, m, w.shallow), w.few, rw (filled c.before.before.before.before) (bytes_whole _), omega (arith, made.emitter_places_lem.ensures, need made, g.requires.3, c.before.before.before.before.write_same.auto.0))
 
 same_length : tie.Need-same-length
 same_length c = search rules
@@ -68,7 +71,7 @@ returns c =
     let a = g.args in
     c.before.before.put-placeholders.ensures
     ∙ ap bytes_of
-    (fresh_of a.d a.plan.now a.kc.now g.requires.0 _ (deep made.before.before) a.j _ _ g.requires.1 made.before.before.before.number_at.ensures.0 made.emitter_places_lem.ensures
+    (fresh_of a.d a.plan.now a.kc.now g.requires.0 _ (deep made.before.before) a.j _ _ made.before.before.before.number_at.ensures.0 made.emitter_places_lem.ensures
     (cells_of a.store.now) _ _ (omega (arith, g.requires.3, whole_length a.store.now g.requires.2)) (ap cells_of (filled put) ∙ cells_bytes _) refl)
 
 pub fresh_places_spec : {M : Type 1} → statement M
@@ -80,6 +83,7 @@ fresh_places_spec =
     emitter-places-requires
     write-same-requires
     add-put-placeholders
+    add-put-placeholders-2
     put-placeholders-requires
     same_length
     returns)

@@ -5,22 +5,21 @@ use mathlib.Core.Path.{◌≡◌}
 use native.Mathlib.Nat.{mod-lt}
 use native.Mathlib.Omega.{arith}
 use lib.ListN.{length}
-use Rattle.pattern.specs.Until.{symbols_until}
 use Rattle.byteflushes.proofs.BytePutting.{BytePutting, byte_first, byte_length, byte_fits, byte_next, byte_all}
 use Rattle.byteflushes.proofs.put_placeholders.Statement.{statement}
 use Rattle.byteflushes.proofs.put_placeholders.Tie as tie
 
 abbrev invariant-loop : tie.invariant-loop
-invariant-loop m step base j kc store₀ p₀ at₀ delay₀ store p at delay = BytePutting m (symbols_until step base j) kc store₀ store p at delay
+invariant-loop m base kc store₀ p₀ at₀ delay₀ store p at delay = BytePutting m base kc store₀ store p at delay
 
 abbrev decreases-loop : tie.decreases-loop
-decreases-loop m step base j kc store₀ p₀ at₀ delay₀ store p at delay = length kc - p
+decreases-loop m base kc store₀ p₀ at₀ delay₀ store p at delay = length kc - p
 
 loop-holds : tie.Need-loop-init invariant-loop decreases-loop
 loop-holds c =
     let g = c.before.before in
     let a = g.args in
-    byte_first a.m (symbols_until a.step a.base a.j) a.kc.now a.store.now g.requires.5
+    byte_first a.m a.base a.kc.now a.store.now g.requires.3
 
 mul-symbols-until : tie.Need-overflow-mul-symbols-until invariant-loop decreases-loop
 mul-symbols-until c = search rules
@@ -29,7 +28,7 @@ shared-slice-read-symbols-until : tie.Need-shared-slice-read-symbols-until invar
 shared-slice-read-symbols-until c = search rules
 
 symbols-until-requires : tie.Need-symbols-until-requires invariant-loop decreases-loop
-symbols-until-requires c κs = let g = c.before.before.before.before.before in (g.requires.2, g.requires.3)
+symbols-until-requires c κs = search rules
 
 -- the places of cell p lie within the store
 fits : (c : tie.In-loop invariant-loop decreases-loop)
@@ -38,7 +37,7 @@ fits c =
     let g = c.before.before.before.before in
     let a = g.args in
     let l = c.before.loop in
-    byte_fits a.m (symbols_until a.step a.base a.j) a.kc.now a.store.now g.requires.5 l.store l.p l.at l.delay l.invariant c.loop-test.true g.requires.6
+    byte_fits a.m a.base a.kc.now a.store.now g.requires.3 l.store l.p l.at l.delay l.invariant c.loop-test.true g.requires.4
 
 put-placeholder-requires : tie.Need-put-placeholder-requires invariant-loop decreases-loop
 put-placeholder-requires c κs = (c.before.before.before.before.loop.invariant.whole, (fits c.before.before.before).0)
@@ -60,21 +59,21 @@ loop-again c =
     let g = c.before.before.before.before.before.before.before.before.before.before.before in
     let a = g.args in
     let l = c.before.before.before.before.before.before.before.before.loop in
-    byte_next a.m (symbols_until a.step a.base a.j) a.kc.now a.store.now g.requires.5 l.store l.p l.at l.delay l.invariant c.before.before.before.before.before.before.before.loop-test.true _ _ _ c.before.before.before.before.before.symbols-until.ensures c.before.before.before.put-placeholder.ensures c.next-delay.ensures
+    byte_next a.m a.base a.kc.now a.store.now g.requires.3 l.store l.p l.at l.delay l.invariant c.before.before.before.before.before.before.before.loop-test.true _ _ _ c.before.before.before.before.before.symbols-until.ensures c.before.before.before.put-placeholder.ensures c.next-delay.ensures
 
 same_length : tie.Need-same-length invariant-loop decreases-loop
 same_length c =
     let g = c.before.before.before.before in
     let a = g.args in
     let l = c.before.loop in
-    byte_length a.m (symbols_until a.step a.base a.j) a.kc.now a.store.now g.requires.5 l.store l.p l.at l.delay l.invariant
+    byte_length a.m a.base a.kc.now a.store.now g.requires.3 l.store l.p l.at l.delay l.invariant
 
 returns : tie.Need-returns invariant-loop decreases-loop
 returns c =
     let g = c.before.before.before.before in
     let a = g.args in
     let l = c.before.loop in
-    byte_all a.m (symbols_until a.step a.base a.j) a.kc.now a.store.now g.requires.5 l.store l.p l.at l.delay l.invariant c.loop-test.false
+    byte_all a.m a.base a.kc.now a.store.now g.requires.3 l.store l.p l.at l.delay l.invariant c.loop-test.false
 
 pub put_placeholders_spec : {M : Type 1} → statement M
 put_placeholders_spec =

@@ -9,12 +9,13 @@ use lib.Seq.{length-take-le}
 use Rattle.rules.specs.declared.Device.{Device}
 use Rattle.rules.specs.declared.Verdict.{Verdict}
 use Rattle.rules.specs.declared.Verdict.TheVariants.{Accepted}
-use Rattle.rules.specs.Device.{device_of}
+use Rattle.rules.specs.Device.{khz50}
 use Rattle.rules.specs.Fits.{Fits}
 use Rattle.rules.specs.Plan.{plan_of}
 use Rattle.rules.specs.Frame.{frame_of}
 use Rattle.rules.specs.Store.{emitter_places}
 use Rattle.rules.specs.Steps.{start_step}
+use Rattle.rules.proofs.Sizes.{khz50_fits}
 use Rattle.flushes.specs.Spotted.{Spotted}
 use Rattle.startgrounds.specs.Admit.{emitter_verdict, SpottedIf}
 use Rattle.startgrounds.proofs.Starts.{few, StartInOrder, admitted, start_refused, started}
@@ -35,7 +36,7 @@ abbrev start : tie.After-n → tie.Start
 start c = c.before.before.before.before.before.before.before.before.before.before.before
 
 abbrev device : tie.After-n → Device
-device c = c.before.before.before.before.before.device-of.result
+device c = c.before.before.before.before.before.khz50-device.result
 
 -- no ground of 1 to 17 holds
 accepted : (c : tie.After-n) → Accepted c.n.given.0.0 ≡ emitter_verdict false (device c) (start c).args.plan.now (start c).args.phase (cells_of (start c).args.store.now)
@@ -67,18 +68,18 @@ same_length c = search rules
 returns : tie.Need-returns
 returns c =
     let a = c.before.before.before.before.before.args in
-    odd_start (device_of a.plan.now) a.plan.now a.phase a.store.now (sym c.before.halved.ensures.0 ∙ c.if1.true)
+    odd_start khz50 a.plan.now a.phase a.store.now (sym c.before.halved.ensures.0 ∙ c.if1.true)
 
-device-of-requires : tie.Need-device-of-requires
-device-of-requires c κs = search rules
+khz50-device-requires : tie.Need-khz50-device-requires
+khz50-device-requires c κs = search rules
 
 slice-aggregate-admit-emitter : tie.Need-slice-aggregate-admit-emitter
 slice-aggregate-admit-emitter c = search rules
 
 admit-emitter-requires : tie.Need-admit-emitter-requires
 admit-emitter-requires c κs =
-    let is = c.before.device-of.ensures.0 in
-    (c.before.device-of.ensures.1, c.before.device-of.ensures.2, refl)
+    let is = c.before.khz50-device.ensures in
+    (subst Fits (sym is) khz50_fits, omega (arith, ap (λ (d : Device). d.depth_max) is), refl)
 
 enum-known-g : tie.Need-enum-known-g
 enum-known-g c = search rules
@@ -111,8 +112,8 @@ returns-2 c =
     let ok = even c.before.before.before.before.before.before.before in
     let met = sym c.before.g.given.1 ∙ c.before.before.before.before.admit-emitter.ensures.0 _ (length_cells a.store.now) in
     start_written _ a.store.now cells _ (sym ok.1) (start_refused false _ a.plan.now a.phase cells _ _ met)
-    ∙ ap (λ (d : Device). started_bytes (start_step d a.plan.now a.phase cells)) c.before.before.before.before.before.before.device-of.ensures.0
-    ∙ even_start (device_of a.plan.now) a.plan.now a.phase a.store.now ok.0
+    ∙ ap (λ (d : Device). started_bytes (start_step d a.plan.now a.phase cells)) c.before.before.before.before.before.before.khz50-device.ensures
+    ∙ even_start khz50 a.plan.now a.phase a.store.now ok.0
 
 same-length-3 : tie.Need-same-length-3
 same-length-3 c = search rules
@@ -123,8 +124,8 @@ returns-3 c =
     let a = (start k).args in
     let cells = cells_of a.store.now in
     start_written _ _ _ _ c.before.before.fresh-places.ensures (started false _ a.plan.now a.phase cells _ (accepted k) _ refl)
-    ∙ ap (λ (d : Device). started_bytes (start_step d a.plan.now a.phase cells)) k.before.before.before.before.before.device-of.ensures.0
-    ∙ even_start (device_of a.plan.now) a.plan.now a.phase a.store.now (even k.before.before.before.before.before.before).0
+    ∙ ap (λ (d : Device). started_bytes (start_step d a.plan.now a.phase cells)) k.before.before.before.before.before.khz50-device.ensures
+    ∙ even_start khz50 a.plan.now a.phase a.store.now (even k.before.before.before.before.before.before).0
 
 pub fresh_emitter_spec : {M : Type 1} → statement M
 fresh_emitter_spec =
@@ -133,7 +134,7 @@ fresh_emitter_spec =
     halved-requires
     same_length
     returns
-    device-of-requires
+    khz50-device-requires
     slice-aggregate-admit-emitter
     admit-emitter-requires
     enum-known-g

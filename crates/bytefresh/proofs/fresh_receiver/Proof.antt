@@ -6,10 +6,11 @@ use native.Mathlib.Omega.{arith}
 use lib.ListN.{replicate}
 use Rattle.rules.specs.declared.Device.{Device}
 use Rattle.rules.specs.declared.CountAnswer.TheVariants.{Count}
-use Rattle.rules.specs.Device.{device_of}
+use Rattle.rules.specs.Device.{khz50}
 use Rattle.rules.specs.Fits.{Fits}
 use Rattle.rules.specs.Frame.{filler}
 use Rattle.rules.specs.Receive.{listen_step}
+use Rattle.rules.proofs.Sizes.{khz50_fits}
 use Rattle.startgrounds.specs.Admit.{receiver_answer}
 use Rattle.startgrounds.proofs.Starts.{places_fit, listen_refused, listening}
 use Rattle.bytecells.specs.Octets.{cells_of, odd, Whole}
@@ -29,7 +30,7 @@ abbrev start : tie.After-n → tie.Start
 start c = c.before.before.before.before.before.before.before.before.before
 
 abbrev device : tie.After-n → Device
-device c = c.before.before.before.device-of.result
+device c = c.before.before.before.khz50-device.result
 
 -- no ground of 1 to 17 holds, and n is the number of places
 counted : (c : tie.After-n) → Count c.n.given.0.0 ≡ receiver_answer (device c) (start c).args.plan.now (start c).args.phase (cells_of (start c).args.store.now)
@@ -44,15 +45,15 @@ same_length c = search rules
 returns : tie.Need-returns
 returns c =
     let a = c.before.before.before.before.before.args in
-    odd_listen (device_of a.plan.now) a.plan.now a.phase a.store.now (sym c.before.halved.ensures.0 ∙ c.if1.true)
+    odd_listen khz50 a.plan.now a.phase a.store.now (sym c.before.halved.ensures.0 ∙ c.if1.true)
 
-device-of-requires : tie.Need-device-of-requires
-device-of-requires c κs = search rules
+khz50-device-requires : tie.Need-khz50-device-requires
+khz50-device-requires c κs = search rules
 
 admit-receiver-requires : tie.Need-admit-receiver-requires
 admit-receiver-requires c κs =
-    let is = c.device-of.ensures.0 in
-    (c.device-of.ensures.1, c.device-of.ensures.2)
+    let is = c.khz50-device.ensures in
+    (subst Fits (sym is) khz50_fits, omega (arith, ap (λ (d : Device). d.depth_max) is))
 
 enum-known-g : tie.Need-enum-known-g
 enum-known-g c = search rules
@@ -78,8 +79,8 @@ returns-2 c =
     let ok = even c.before.before.before.before.before in
     let met = sym c.before.g.given.1 ∙ c.before.before.before.admit-receiver.ensures _ (length_cells a.store.now) in
     listen_written _ a.store.now cells _ (sym ok.1) (listen_refused _ a.plan.now a.phase cells _ _ met)
-    ∙ ap (λ (d : Device). listened_bytes (listen_step d a.plan.now a.phase cells)) c.before.before.before.before.device-of.ensures.0
-    ∙ even_listen (device_of a.plan.now) a.plan.now a.phase a.store.now ok.0
+    ∙ ap (λ (d : Device). listened_bytes (listen_step d a.plan.now a.phase cells)) c.before.before.before.before.khz50-device.ensures
+    ∙ even_listen khz50 a.plan.now a.phase a.store.now ok.0
 
 same-length-3 : tie.Need-same-length-3
 same-length-3 c = search rules
@@ -92,8 +93,8 @@ returns-3 c =
     let ok = even k.before.before.before.before in
     let made = c.before.before.write_same.ensures ∙ put_bytes a.store.now 0 (replicate k.n.given.0.0 filler) ok.1 in
     listen_written _ _ _ _ made (listening _ a.plan.now a.phase cells _ (counted k) _ refl)
-    ∙ ap (λ (d : Device). listened_bytes (listen_step d a.plan.now a.phase cells)) k.before.before.before.device-of.ensures.0
-    ∙ even_listen (device_of a.plan.now) a.plan.now a.phase a.store.now ok.0
+    ∙ ap (λ (d : Device). listened_bytes (listen_step d a.plan.now a.phase cells)) k.before.before.before.khz50-device.ensures
+    ∙ even_listen khz50 a.plan.now a.phase a.store.now ok.0
 
 pub fresh_receiver_spec : {M : Type 1} → statement M
 fresh_receiver_spec =
@@ -102,7 +103,7 @@ fresh_receiver_spec =
     halved-requires
     same_length
     returns
-    device-of-requires
+    khz50-device-requires
     admit-receiver-requires
     enum-known-g
     enum-known-n

@@ -18,7 +18,7 @@ use Rattle.bytereceiver.proofs.hand_out.Statement.{statement}
 use Rattle.bytereceiver.proofs.hand_out.Tie as tie
 
 -- the data cells fit the array
-low : (g : tie.Start) → g.args.nd ≤ capacity
+low : (g : tie.Start) → g.args.nd ≤ 4096
 low g = omega (arith, g.requires.1, g.requires.3, count_le (is_zero g.args.flag.now) (length g.args.cells.now))
 
 -- the data cells are as many, and are the first of the array

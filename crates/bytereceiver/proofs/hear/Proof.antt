@@ -34,7 +34,7 @@ abbrev arrival : tie.Start → Arrival
 arrival g = arriving [] g.args.y.now (cells_of g.args.buffer.now)
 
 -- its cells fit the array
-low : (g : tie.Start) → g.args.n ≤ capacity
+low : (g : tie.Start) → g.args.n ≤ 4096
 unfolding frame_of
 low g = omega (arith, g.requires.3.few, g.requires.0.few)
 

@@ -1,12 +1,12 @@
 -- `callruns::zero_is_warming` meets its contract: the claim is the law `zero_is_warming`. Assumes nothing.
-use Rattle.rules.specs.Device.{device_of}
-use Rattle.facts.proofs.Sizes.{plan_roomy}
+use Rattle.rules.specs.Device.{khz50}
+use Rattle.facts.proofs.Sizes.{khz50_roomy}
 use Rattle.callruns.proofs.Warming.{zero_is_warming}
 use Rattle.callruns.proofs.zero_is_warming.Statement.{statement}
 use Rattle.callruns.proofs.zero_is_warming.Tie as tie
 
 returns : tie.Need-returns
-returns c = λ s. zero_is_warming (device_of s) s (plan_roomy s)
+returns c = λ s. zero_is_warming khz50 s khz50_roomy
 
 pub zero_is_warming_spec : {M : Type 1} → statement M
 zero_is_warming_spec = tie.close (tie.spec returns)

@@ -1,7 +1,7 @@
 -- `cells::count_in` meets its contract. Assumes nothing.
 use borrow.Author.Rules.{rules}
 use Prim.Native.Nat.{ℕ, ◌≤◌}
-use mathlib.Core.Path.{◌≡◌, sym, ap, ◌∙◌}
+use mathlib.Core.Path.{◌≡◌, refl, sym, ap, ◌∙◌}
 use native.Mathlib.Omega.{arith}
 use Rattle.rules.specs.declared.Device.{Device}
 use Rattle.rules.specs.declared.CountAnswer.TheVariants.{Count}
@@ -51,7 +51,7 @@ prepare-requires c κs =
     let pre = start.requires in
     let depth : c.before.before.before.number_at.result ≡ (plan_of start.args.plan.now).depth = unfold plan_of in c.before.before.before.number_at.ensures.0 in
     let size = part_size start.args.ni (small_at start) in
-    (pre.0, pre.1, depth, omega (arith, depth, pre.2), omega (arith, depth, pre.3), omega (arith, c.before.before.before.before.if1.false), pre.0.few, size ∙ pre.4, omega (arith, size))
+    (pre.0, pre.1, depth, omega (arith, depth, pre.2), omega (arith, depth, pre.3), omega (arith, c.before.before.before.before.if1.false), refl, size ∙ pre.4, omega (arith, size))
 
 cast-nd : tie.Need-overflow-cast-nd
 cast-nd c =

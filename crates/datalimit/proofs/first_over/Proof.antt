@@ -6,7 +6,6 @@ use native.Mathlib.Omega.{arith}
 use lib.ListN.{length, get_or}
 use Rattle.counting.specs.Search.{count, is_zero}
 use Rattle.counting.proofs.Laws.{count_le}
-use Rattle.rules.specs.Fits.{capacity}
 use Rattle.rules.specs.Loads.{load_limit}
 use Rattle.datalimit.proofs.Over.{is_over, is_within, Input, none_over, all_within}
 use Rattle.datalimit.proofs.first_over.Statement.{statement}
@@ -15,7 +14,7 @@ use Rattle.datalimit.proofs.first_over.Tie as tie
 given : (start : tie.Start) → Input start.args.profile.now start.args.flag.now start.args.x.now start.args.ds.now (length start.args.x.now)
 given start = record { small = start.requires.4; all = start.requires.5; cells = start.requires.6 }
 
-few : (start : tie.Start) → length start.args.ds.now ≤ capacity
+few : (start : tie.Start) → length start.args.ds.now ≤ 4096
 few start = omega (arith, start.requires.0, start.requires.5, count_le (is_zero start.args.flag.now) (length start.args.x.now))
 
 load-range-requires : tie.Need-load-range-requires

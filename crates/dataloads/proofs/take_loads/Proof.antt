@@ -8,7 +8,6 @@ use lib.ListN.{length, get_or, take}
 use lib.Seq.{sets, length-take-le}
 use Rattle.counting.specs.Search.{count, is_zero}
 use Rattle.counting.proofs.Lists.{length_tabulate, take-sets}
-use Rattle.rules.specs.Fits.{capacity}
 use Rattle.rules.specs.Plan.{plan_of}
 use Rattle.rules.specs.Frame.{Frame, frame_of, data_count, line_cells}
 use Rattle.rules.specs.Bits.{total}
@@ -31,7 +30,7 @@ frame g = frame_of g.args.d (plan_of g.args.plan.now)
 abbrev cells_of : tie.Start → ℕ
 cells_of g = length g.args.x.now
 
-low : (g : tie.Start) → cells_of g ≤ capacity
+low : (g : tie.Start) → cells_of g ≤ 4096
 low g = omega (arith, g.requires.2, cells_low g.args.d (plan_of g.args.plan.now) g.requires.0)
 
 -- the loads in cell order are as many

@@ -6,7 +6,6 @@ use native.Mathlib.Omega.{arith}
 use Prim.Native.Nat.{ℕ, ◌/◌}
 use lib.ListN.{length, length-replicate}
 use lib.Seq.{length-take-le}
-use Rattle.rules.specs.Fits.{capacity}
 use Rattle.rules.specs.Grounds.{verdict}
 use Rattle.plan.specs.Walk.{Kept}
 use Rattle.copylaws.proofs.Copy.{sized}
@@ -35,7 +34,7 @@ study-from-requires : tie.Need-study-from-requires
 study-from-requires c κs =
     let g = c.before.before.before.before.before.before.before.before.before.before.before.before in
     let e = c.before.before.before.before.before.before.before.before.extend.ensures in
-    (g.requires.0, (λ good. subst (λ (s : List ℕ). Kept g.args.d s (length s / 8) (length g.args.plan.now / 8) g.args.np g.args.reach.now g.args.hot.now g.args.pil.now g.args.rec.now) (sym e.0) (walk_on g.args.d g.args.plan.now g.args.first g.args.last g.requires.1 g.requires.2)), length-replicate {A = ℕ} capacity 0)
+    (g.requires.0, (λ good. subst (λ (s : List ℕ). Kept g.args.d s (length s / 8) (length g.args.plan.now / 8) g.args.np g.args.reach.now g.args.hot.now g.args.pil.now g.args.rec.now) (sym e.0) (walk_on g.args.d g.args.plan.now g.args.first g.args.last g.requires.1 g.requires.2)), length-replicate {A = ℕ} 4096 0)
 
 same_length : tie.Need-same-length
 same_length c = search rules

@@ -3,8 +3,7 @@ use borrow.Author.Rules.{rules}
 use mathlib.Core.Path.{ap₂, ◌∙◌}
 use native.Mathlib.Omega.{arith}
 use Prim.Native.Nat.{ℕ}
-use Rattle.rules.proofs.Sizes.{plan_fits}
-use Rattle.rules.specs.Device.{device_of}
+use Rattle.rules.specs.Device.{khz50}
 use Rattle.exclusion.specs.Trial.{trial_verdict}
 use Rattle.exclusion.proofs.Trials.{held_trial}
 use Rattle.exclusion.proofs.try_numbers.Statement.{statement}
@@ -23,8 +22,8 @@ returns : tie.Need-returns
 returns c =
     let g = c.before.before.before.before in
     c.try-exclusion.ensures
-    ∙ ap₂ (λ (a b : ℕ). trial_verdict (device_of g.args.plan.now) g.args.plan.now a b) c.before.before.held.ensures c.before.held2.ensures
-    ∙ held_trial (device_of g.args.plan.now) g.args.plan.now (omega (arith, (plan_fits g.args.plan.now).few)) g.args.first g.args.last
+    ∙ ap₂ (λ (a b : ℕ). trial_verdict khz50 g.args.plan.now a b) c.before.before.held.ensures c.before.held2.ensures
+    ∙ held_trial khz50 g.args.plan.now (omega arith) g.args.first g.args.last
 
 pub try_numbers_spec : {M : Type 1} → statement M
 try_numbers_spec =

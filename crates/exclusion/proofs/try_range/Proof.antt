@@ -3,9 +3,7 @@ use borrow.Author.Rules.{rules}
 use mathlib.Core.Path.{sym, ap, ◌∙◌, subst}
 use Prim.Native.Nat.{ℕ}
 use lib.ListN.{replicate, length-replicate}
-use Rattle.rules.specs.Fits.{capacity}
-use Rattle.ranges.specs.Reach.{blocks_max}
-use Rattle.ranges.proofs.NoteLaws.{table_zero, flags_zero, begun_zero, hit_zero}
+use Rattle.ranges.proofs.NoteLaws.{table_zero, flags_zero, hit_zero}
 use Rattle.plan.specs.declared.Chain.{Chain}
 use Rattle.plan.specs.Noted.{finding_of, Filled}
 use Rattle.plan.proofs.ChainLaws.{kept_start}
@@ -16,7 +14,7 @@ use Rattle.exclusion.proofs.try_range.Tie as tie
 walk-chain-requires : tie.Need-walk-chain-requires
 walk-chain-requires c κs =
     let g = c.before.before.before.before.before.before in
-    (g.pre.0, kept_start (table_zero capacity g.args.d.subcarriers g.pre.0.few) (flags_zero capacity (replicate blocks_max 0) (length-replicate {A = ℕ} blocks_max 0)) (begun_zero capacity g.args.d.subcarriers) (hit_zero capacity) (length-replicate {A = ℕ} 128 0) (length-replicate {A = ℕ} 128 0))
+    (g.pre.0, kept_start (table_zero 4096 g.args.d.subcarriers g.pre.0.few) (flags_zero 4096 (replicate 256 0) (length-replicate {A = ℕ} 256 0)) (hit_zero 4096) (length-replicate {A = ℕ} 128 0) (length-replicate {A = ℕ} 128 0))
 
 enum-known-g : tie.Need-enum-known-g
 enum-known-g c = search rules

@@ -12,6 +12,7 @@ use Rattle.rules.specs.declared.Verdict.TheVariants.{Accepted}
 use Rattle.rules.specs.Fits.{Fits}
 use Rattle.rules.specs.Plan.{plan_of}
 use Rattle.rules.specs.Frame.{frame_of}
+use Rattle.rules.proofs.Sizes.{khz50_fits}
 use Rattle.figure.specs.Steps.{literal_places, figure_start_step}
 use Rattle.flushes.specs.Spotted.{Spotted}
 use Rattle.startgrounds.specs.Admit.{emitter_verdict, SpottedIf}
@@ -23,7 +24,7 @@ abbrev start : tie.After-n → tie.Start
 start c = c.before.before.before.before.before.before.before.before
 
 abbrev device : tie.After-n → Device
-device c = c.before.before.before.before.before.device-of.result
+device c = c.before.before.before.before.before.khz50-device.result
 
 -- no ground of 1 to 17 and 27 holds
 accepted : (c : tie.After-n) → Accepted c.n.given.0.0 ≡ emitter_verdict true (device c) (start c).args.plan.now (start c).args.phase (start c).args.store.now
@@ -46,16 +47,16 @@ low c = omega (arith, few (device c) (start c).args.plan.now _ (places_from c).r
 size : (c : tie.After-n) → length (take c.n.given.0.0 c.before.before.before.admit-emitter.new.1.1.1.1.0) ≡ c.n.given.0.0
 size c = length-take-le _ _ (low c)
 
-device-of-requires : tie.Need-device-of-requires
-device-of-requires c κs = search rules
+khz50-device-requires : tie.Need-khz50-device-requires
+khz50-device-requires c κs = search rules
 
 slice-aggregate-admit-emitter : tie.Need-slice-aggregate-admit-emitter
 slice-aggregate-admit-emitter c = search rules
 
 admit-emitter-requires : tie.Need-admit-emitter-requires
 admit-emitter-requires c κs =
-    let is = c.before.device-of.ensures.0 in
-    (c.before.device-of.ensures.1, c.before.device-of.ensures.2, refl)
+    let is = c.before.khz50-device.ensures in
+    (subst Fits (sym is) khz50_fits, omega (arith, ap (λ (d : Device). d.depth_max) is), refl)
 
 enum-known-g : tie.Need-enum-known-g
 enum-known-g c = search rules
@@ -80,7 +81,7 @@ fresh-lines-requires c κs =
 returns : tie.Need-returns
 returns c =
     let a = c.before.before.before.before.before.before.before.before.before.args in
-    let is = c.before.before.before.before.before.before.device-of.ensures.0 in
+    let is = c.before.before.before.before.before.before.khz50-device.ensures in
     start_refused true _ a.plan.now a.phase a.store.now _ _ (sym c.before.g.given.1 ∙ c.before.before.before.before.admit-emitter.ensures.0 _ refl)
     ∙ ap (λ (d : Device). figure_start_step d a.plan.now a.phase a.store.now) is
 
@@ -92,13 +93,13 @@ returns-2 c =
     let k = c.before.before.before.before.before.before in
     let a = (start k).args in
     started true _ a.plan.now a.phase a.store.now _ (accepted k) _ c.before.before.fresh_lines.ensures
-    ∙ ap (λ (d : Device). figure_start_step d a.plan.now a.phase a.store.now) k.before.before.before.before.before.device-of.ensures.0
+    ∙ ap (λ (d : Device). figure_start_step d a.plan.now a.phase a.store.now) k.before.before.before.before.before.khz50-device.ensures
 
 pub fresh_emitter_spec : {M : Type 1} → statement M
 fresh_emitter_spec =
     tie.close
     (tie.spec
-    device-of-requires
+    khz50-device-requires
     slice-aggregate-admit-emitter
     admit-emitter-requires
     enum-known-g

@@ -38,13 +38,16 @@ put-filler-requires c κs = omega (arith, need c, c.before.before.before.before.
 add-put-placeholders : tie.Need-overflow-add-put-placeholders
 add-put-placeholders c = search rules
 
+add-put-placeholders-2 : tie.Need-overflow-add-put-placeholders-2
+add-put-placeholders-2 c = search rules
+
 put-placeholders-requires : tie.Need-put-placeholders-requires
 put-placeholders-requires c κs =
     let made = c.before.before.before.before.before in
     let g = made.before.before.before.before.before.before.before in
     let w = g.requires.0 in
     let m = deep made.before.before in
-    (omega (arith, m, w.deep), omega (arith, m, w.shallow), w.fits.step, g.requires.1, w.few, omega (arith, made.literal-places.ensures, need made, g.requires.2, c.before.before.before.before.put-filler.auto))
+    (omega (arith, m, w.deep), omega (arith, m, w.shallow), w.few, omega (arith, made.literal-places.ensures, need made, g.requires.2, c.before.before.before.before.put-filler.auto))
 
 same_length : tie.Need-same-length
 same_length c = search rules
@@ -55,7 +58,7 @@ returns c =
     let made = c.before.before.before.before.before.before.before.before in
     let g = made.before.before.before.before.before.before.before in
     let a = g.args in
-    fresh_of a.d a.plan.now a.kc.now g.requires.0 _ (deep made.before.before) a.phase _ _ g.requires.1 made.before.before.before.number_at.ensures.0 made.literal-places.ensures
+    fresh_of a.d a.plan.now a.kc.now g.requires.0 _ (deep made.before.before) a.phase _ _ made.before.before.before.number_at.ensures.0 made.literal-places.ensures
     a.store.now _ _ g.requires.2 c.before.before.before.before.before.before.before.put-filler.ensures c.before.before.put-placeholders.ensures
 
 pub fresh_lines_spec : {M : Type 1} → statement M
@@ -67,6 +70,7 @@ fresh_lines_spec =
     literal-places-requires
     put-filler-requires
     add-put-placeholders
+    add-put-placeholders-2
     put-placeholders-requires
     same_length
     returns)

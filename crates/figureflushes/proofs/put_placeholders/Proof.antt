@@ -4,16 +4,15 @@ use Prim.Native.Nat.{◌+◌, ◌*◌, ◌-◌, ◌≤◌, ◌<◌}
 use mathlib.Core.Path.{◌≡◌}
 use native.Mathlib.Omega.{arith}
 use lib.ListN.{length}
-use Rattle.pattern.specs.Until.{symbols_until}
 use Rattle.figureflushes.proofs.Putting.{Putting, putting_first, putting_length, putting_fits, putting_next, putting_turn, putting_all}
 use Rattle.figureflushes.proofs.put_placeholders.Statement.{statement}
 use Rattle.figureflushes.proofs.put_placeholders.Tie as tie
 
 abbrev invariant-loop : tie.invariant-loop
-invariant-loop m step base phase kc store₀ j p₀ begins₀ line₀ turn₀ store p begins line turn = Putting m j (symbols_until step base phase) kc store₀ store p begins line turn
+invariant-loop m base kc store₀ j p₀ begins₀ line₀ turn₀ store p begins line turn = Putting m j base kc store₀ store p begins line turn
 
 abbrev decreases-loop : tie.decreases-loop
-decreases-loop m step base phase kc store₀ j p₀ begins₀ line₀ turn₀ store p begins line turn = length kc - p
+decreases-loop m base kc store₀ j p₀ begins₀ line₀ turn₀ store p begins line turn = length kc - p
 
 ceiling-requires : tie.Need-ceiling-requires invariant-loop decreases-loop
 ceiling-requires c κs = search rules
@@ -22,7 +21,7 @@ loop-holds : tie.Need-loop-init invariant-loop decreases-loop
 loop-holds c =
     let g = c.before.before.before in
     let a = g.args in
-    putting_first a.m _ (symbols_until a.step a.base a.phase) a.kc.now a.store.now c.ceiling.ensures.0 g.requires.0
+    putting_first a.m _ a.base a.kc.now a.store.now c.ceiling.ensures.0 g.requires.0
 
 mul-symbols-until : tie.Need-overflow-mul-symbols-until invariant-loop decreases-loop
 mul-symbols-until c = search rules
@@ -31,7 +30,7 @@ shared-slice-read-symbols-until : tie.Need-shared-slice-read-symbols-until invar
 shared-slice-read-symbols-until c = search rules
 
 symbols-until-requires : tie.Need-symbols-until-requires invariant-loop decreases-loop
-symbols-until-requires c κs = let g = c.before.before.before.before.before.before in (g.requires.2, g.requires.3)
+symbols-until-requires c κs = search rules
 
 -- the line of cell p lies within the store
 fits : (c : tie.In-loop invariant-loop decreases-loop)
@@ -42,8 +41,8 @@ fits c =
     let g = c.before.before.before.before.before in
     let a = g.args in
     let l = c.before.loop in
-    putting_fits a.m _ (symbols_until a.step a.base a.phase) a.kc.now a.store.now c.before.before.ceiling.ensures.0 g.requires.0 l.store l.p l.begins l.line l.turn l.invariant
-    c.loop-test.true g.requires.5
+    putting_fits a.m _ a.base a.kc.now a.store.now c.before.before.ceiling.ensures.0 g.requires.0 l.store l.p l.begins l.line l.turn l.invariant
+    c.loop-test.true g.requires.3
 
 put-placeholder-requires : tie.Need-put-placeholder-requires invariant-loop decreases-loop
 put-placeholder-requires c κs = let f = fits c.before.before.before in (f.0, f.1)
@@ -69,7 +68,7 @@ loop-again c =
     let g = i.before.before.before.before.before in
     let a = g.args in
     let l = i.before.loop in
-    putting_turn a.m _ (symbols_until a.step a.base a.phase) a.kc.now a.store.now i.before.before.ceiling.ensures.0 g.requires.0 l.store l.p l.begins l.line l.turn l.invariant
+    putting_turn a.m _ a.base a.kc.now a.store.now i.before.before.ceiling.ensures.0 g.requires.0 l.store l.p l.begins l.line l.turn l.invariant
     i.loop-test.true _ _ c.before.before.before.before.before.symbols-until.ensures c.before.before.before.put-placeholder.ensures c.if1.true
 
 mul-begins : tie.Need-overflow-mul-begins invariant-loop decreases-loop
@@ -90,7 +89,7 @@ loop-again-2 c =
     let g = i.before.before.before.before.before in
     let a = g.args in
     let l = i.before.loop in
-    putting_next a.m _ (symbols_until a.step a.base a.phase) a.kc.now a.store.now i.before.before.ceiling.ensures.0 g.requires.0 l.store l.p l.begins l.line l.turn l.invariant
+    putting_next a.m _ a.base a.kc.now a.store.now i.before.before.ceiling.ensures.0 g.requires.0 l.store l.p l.begins l.line l.turn l.invariant
     i.loop-test.true _ _ c.before.before.before.before.before.symbols-until.ensures c.before.before.before.put-placeholder.ensures (omega (arith, c.if1.false, l.invariant.low))
 
 same_length : tie.Need-same-length invariant-loop decreases-loop
@@ -98,7 +97,7 @@ same_length c =
     let g = c.before.before.before.before.before in
     let a = g.args in
     let l = c.before.loop in
-    putting_length a.m _ (symbols_until a.step a.base a.phase) a.kc.now a.store.now c.before.before.ceiling.ensures.0 g.requires.0 l.store l.p l.begins l.line l.turn l.invariant
+    putting_length a.m _ a.base a.kc.now a.store.now c.before.before.ceiling.ensures.0 g.requires.0 l.store l.p l.begins l.line l.turn l.invariant
 
 returns : tie.Need-returns invariant-loop decreases-loop
 returns c =
@@ -106,7 +105,7 @@ returns c =
     let a = g.args in
     let l = c.before.loop in
     let u = c.before.before.ceiling.ensures.0 in
-    rw u at (putting_all a.m _ (symbols_until a.step a.base a.phase) a.kc.now a.store.now u g.requires.0 l.store l.p l.begins l.line l.turn l.invariant c.loop-test.false)
+    rw u at (putting_all a.m _ a.base a.kc.now a.store.now u g.requires.0 l.store l.p l.begins l.line l.turn l.invariant c.loop-test.false)
 
 pub put_placeholders_spec : {M : Type 1} → statement M
 put_placeholders_spec =

@@ -2,7 +2,7 @@
 use borrow.Author.Rules.{rules}
 use mathlib.Core.Path.{ap, ◌∙◌}
 use mathlib.Core.List.{◌++◌}
-use Rattle.rules.specs.Device.{device_of}
+use Rattle.rules.specs.Device.{khz50}
 use Rattle.rules.specs.Steps.{starts}
 use Rattle.figure.specs.Steps.{figure_start_step}
 use Rattle.figuretrials.proofs.fresh_emitter.Statement.{statement}
@@ -27,7 +27,7 @@ returns : tie.Need-returns
 returns c =
     let a = c.before.before.before.before.before.before.before.before.args in
     let f = c.before.before.before.before.at_most.ensures.1 in
-    let s = c.before.before.fresh-emitter.ensures ∙ ap (figure_start_step (device_of a.plan.now) a.plan.now a.phase) f.same in
+    let s = c.before.before.fresh-emitter.ensures ∙ ap (figure_start_step khz50 a.plan.now a.phase) f.same in
     λ i. starts (s i).answer ((s i).store ++ f.rest i)
 
 pub fresh_emitter_spec : {M : Type 1} → statement M

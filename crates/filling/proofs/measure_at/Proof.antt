@@ -1,7 +1,7 @@
 -- `filling::measure_at` meets its contract. One law for each return. Assumes nothing.
 use borrow.Author.Rules.{rules}
 use Prim.Native.Nat.{ℕ, ◌+◌, ◌*◌, ◌-◌, ◌≤◌, ◌<◌}
-use mathlib.Core.Path.{◌≡◌, sym, ap, ◌∙◌}
+use mathlib.Core.Path.{◌≡◌, refl, sym, ap, ◌∙◌}
 use mathlib.Core.Bool.{true, false}
 use mathlib.Core.List.{List, ◌++◌}
 use native.Mathlib.Omega.{arith}
@@ -92,7 +92,7 @@ prepare-requires c κs =
     let r = g.requires.0 in
     let depth : c.before.before.before.number_at.result ≡ (plan_of g.args.plan.now).depth = unfold plan_of in c.before.before.before.number_at.ensures.0 in
     let size = part_size g.args.n (low g) in
-    (r.fits, r.studied, depth, omega (arith, depth, r.deep), omega (arith, depth, r.shallow), omega (arith, g.requires.2), r.fits.few, size ∙ r.all, omega arith)
+    (r.fits, r.studied, depth, omega (arith, depth, r.deep), omega (arith, depth, r.shallow), omega (arith, g.requires.2), refl, size ∙ r.all, omega arith)
 
 returns : tie.Need-returns
 unfolding frame_of

@@ -9,11 +9,13 @@ use lib.Seq.{length-take-le}
 use Rattle.rules.specs.declared.Device.{Device}
 use Rattle.rules.specs.declared.CountAnswer.{CountAnswer}
 use Rattle.rules.specs.declared.CountAnswer.TheVariants.{Count}
+use Rattle.rules.specs.Fits.{Fits, capacity}
 use Rattle.rules.specs.Plan.{plan_of}
 use Rattle.rules.specs.Bits.{total}
 use Rattle.rules.specs.Frame.{frame_of}
 use Rattle.rules.specs.Loads.{data_loads}
 use Rattle.rules.specs.Filling.{bit_count, unfill_step}
+use Rattle.rules.proofs.Sizes.{khz50_fits}
 use Rattle.filling.specs.Measured.{measure, Measured, MeasuredIf}
 use Rattle.filling.proofs.Measures.{unfill_refused, unfill_put, loads_small, need_is}
 use Rattle.filling.proofs.unfill_symbol.Statement.{statement}
@@ -21,7 +23,7 @@ use Rattle.filling.proofs.unfill_symbol.Tie as tie
 
 -- what was measured
 abbrev device : tie.After-need → Device
-device c = c.before.before.before.before.before.device-of.result
+device c = c.before.before.before.before.before.khz50-device.result
 
 said : (c : tie.After-need) → let a = c.before.before.before.before.before.before.before.before.before.before.args in (Count c.need.given.0.0 ≡ measure (device c) a.plan.now a.profile.now a.phase (length a.input.now) (length a.stream.now) a.start) × Measured (frame_of (device c) (plan_of a.plan.now)) a.profile.now a.phase (length a.input.now) (length a.stream.now) a.start c.before.before.before.measure.new.1.1.1.1.1.1.1.0
 said c =
@@ -29,14 +31,14 @@ said c =
     let m = c.before.before.before.measure in
     (sym c.need.given.1 ∙ m.ensures.0, subst (λ (r : CountAnswer). MeasuredIf r (frame_of (device c) (plan_of a.plan.now)) a.profile.now a.phase (length a.input.now) (length a.stream.now) a.start m.new.1.1.1.1.1.1.1.0) c.need.given.1 m.ensures.1)
 
-device-of-requires : tie.Need-device-of-requires
-device-of-requires c κs = search rules
+khz50-device-requires : tie.Need-khz50-device-requires
+khz50-device-requires c κs = search rules
 
 slice-aggregate-measure : tie.Need-slice-aggregate-measure
 slice-aggregate-measure c = search rules
 
 measure-requires : tie.Need-measure-requires
-measure-requires c κs = (c.before.device-of.ensures.1, c.before.device-of.ensures.2, omega arith)
+measure-requires c κs = let is = c.before.khz50-device.ensures in (subst Fits (sym is) khz50_fits, omega (arith, ap (λ (d : Device). d.depth_max) is), omega arith)
 
 enum-known-g : tie.Need-enum-known-g
 enum-known-g c = search rules
@@ -64,9 +66,9 @@ returns : tie.Need-returns
 returns c =
     let k = c.before.before.before.before in
     let a = k.before.before.before.before.before.before.before.args in
-    let d = k.before.before.device-of in
+    let d = k.before.before.khz50-device in
     unfill_refused d.result a.plan.now a.profile.now a.phase a.input.now a.start a.stream.now _ _ (sym c.before.g.given.1 ∙ k.measure.ensures.0)
-    ∙ ap (λ (d : Device). unfill_step d a.plan.now a.profile.now a.phase a.input.now a.start a.stream.now) d.ensures.0
+    ∙ ap (λ (d : Device). unfill_step d a.plan.now a.profile.now a.phase a.input.now a.start a.stream.now) d.ensures
 
 same_length : tie.Need-same-length
 same_length c = search rules
@@ -77,13 +79,13 @@ returns-2 c =
     let a = k.before.before.before.before.before.before.before.before.before.before.args in
     c.before.before.put_back.ensures
     ∙ unfill_put (device k) a.plan.now a.profile.now a.phase a.input.now a.start a.stream.now _ _ (said k).0 (said k).1.these
-    ∙ ap (λ (d : Device). unfill_step d a.plan.now a.profile.now a.phase a.input.now a.start a.stream.now) k.before.before.before.before.before.device-of.ensures.0
+    ∙ ap (λ (d : Device). unfill_step d a.plan.now a.profile.now a.phase a.input.now a.start a.stream.now) k.before.before.before.before.before.khz50-device.ensures
 
 pub unfill_symbol_spec : {M : Type 1} → statement M
 unfill_symbol_spec =
     tie.close
     (tie.spec
-    device-of-requires
+    khz50-device-requires
     slice-aggregate-measure
     measure-requires
     enum-known-g

@@ -5,19 +5,18 @@ use mathlib.Core.Path.{◌≡◌}
 use native.Mathlib.Nat.{mod-lt}
 use native.Mathlib.Omega.{arith}
 use lib.ListN.{length}
-use Rattle.pattern.specs.Until.{symbols_until}
 use Rattle.flushes.proofs.Putting.{Putting, putting_first, putting_length, putting_fits, putting_next, putting_all}
 use Rattle.flushes.proofs.put_placeholders.Statement.{statement}
 use Rattle.flushes.proofs.put_placeholders.Tie as tie
 
 abbrev invariant-loop : tie.invariant-loop
-invariant-loop m step base j kc store₀ p₀ at₀ delay₀ store p at delay = Putting m (symbols_until step base j) kc store₀ store p at delay
+invariant-loop m base kc store₀ p₀ at₀ delay₀ store p at delay = Putting m base kc store₀ store p at delay
 
 abbrev decreases-loop : tie.decreases-loop
-decreases-loop m step base j kc store₀ p₀ at₀ delay₀ store p at delay = length kc - p
+decreases-loop m base kc store₀ p₀ at₀ delay₀ store p at delay = length kc - p
 
 loop-holds : tie.Need-loop-init invariant-loop decreases-loop
-loop-holds c = let a = c.before.before.args in putting_first a.m (symbols_until a.step a.base a.j) a.kc.now a.store.now
+loop-holds c = let a = c.before.before.args in putting_first a.m a.base a.kc.now a.store.now
 
 mul-symbols-until : tie.Need-overflow-mul-symbols-until invariant-loop decreases-loop
 mul-symbols-until c = search rules
@@ -26,7 +25,7 @@ shared-slice-read-symbols-until : tie.Need-shared-slice-read-symbols-until invar
 shared-slice-read-symbols-until c = search rules
 
 symbols-until-requires : tie.Need-symbols-until-requires invariant-loop decreases-loop
-symbols-until-requires c κs = let g = c.before.before.before.before.before in (g.requires.2, g.requires.3)
+symbols-until-requires c κs = search rules
 
 -- the places of cell p lie within the store
 fits : (c : tie.In-loop invariant-loop decreases-loop)
@@ -35,7 +34,7 @@ fits c =
     let g = c.before.before.before.before in
     let a = g.args in
     let l = c.before.loop in
-    putting_fits a.m (symbols_until a.step a.base a.j) a.kc.now a.store.now l.store l.p l.at l.delay l.invariant c.loop-test.true g.requires.5
+    putting_fits a.m a.base a.kc.now a.store.now l.store l.p l.at l.delay l.invariant c.loop-test.true g.requires.3
 
 put-placeholder-requires : tie.Need-put-placeholder-requires invariant-loop decreases-loop
 put-placeholder-requires c κs = (fits c.before.before.before).0
@@ -56,19 +55,19 @@ loop-again : tie.Need-loop-preserved invariant-loop decreases-loop
 loop-again c =
     let a = c.before.before.before.before.before.before.before.before.before.before.before.args in
     let l = c.before.before.before.before.before.before.before.before.loop in
-    putting_next a.m (symbols_until a.step a.base a.j) a.kc.now a.store.now l.store l.p l.at l.delay l.invariant c.before.before.before.before.before.before.before.loop-test.true _ _ _ c.before.before.before.before.before.symbols-until.ensures c.before.before.before.put-placeholder.ensures c.next-delay.ensures
+    putting_next a.m a.base a.kc.now a.store.now l.store l.p l.at l.delay l.invariant c.before.before.before.before.before.before.before.loop-test.true _ _ _ c.before.before.before.before.before.symbols-until.ensures c.before.before.before.put-placeholder.ensures c.next-delay.ensures
 
 same_length : tie.Need-same-length invariant-loop decreases-loop
 same_length c =
     let a = c.before.before.before.before.args in
     let l = c.before.loop in
-    putting_length a.m (symbols_until a.step a.base a.j) a.kc.now a.store.now l.store l.p l.at l.delay l.invariant
+    putting_length a.m a.base a.kc.now a.store.now l.store l.p l.at l.delay l.invariant
 
 returns : tie.Need-returns invariant-loop decreases-loop
 returns c =
     let a = c.before.before.before.before.args in
     let l = c.before.loop in
-    putting_all a.m (symbols_until a.step a.base a.j) a.kc.now a.store.now l.store l.p l.at l.delay l.invariant c.loop-test.false
+    putting_all a.m a.base a.kc.now a.store.now l.store l.p l.at l.delay l.invariant c.loop-test.false
 
 pub put_placeholders_spec : {M : Type 1} → statement M
 put_placeholders_spec =

@@ -6,16 +6,16 @@ use native.Mathlib.Omega.{arith}
 use lib.ListN.{length}
 use Rattle.counting.specs.Search.{count}
 use Rattle.counting.proofs.Laws.{count_le}
-use Rattle.placeholders.specs.Meets.{wanted, meets}
+use Rattle.placeholders.specs.Meets.{meets}
 use Rattle.placeholders.proofs.Turns.{Flagged, flagged_none, flagged_next}
 use Rattle.placeholders.proofs.holders.Statement.{statement}
 use Rattle.placeholders.proofs.holders.Tie as tie
 
 abbrev invariant-loop : tie.invariant-loop
-invariant-loop m step base j kc flag₀ ni want len n₀ b₀ flag n b = (b ≤ ni) × (length flag ≡ length flag₀) × Flagged m (wanted step base j) kc flag b n
+invariant-loop m base kc flag₀ ni want len n₀ b₀ flag n b = (b ≤ ni) × (length flag ≡ length flag₀) × Flagged m base kc flag b n
 
 abbrev decreases-loop : tie.decreases-loop
-decreases-loop m step base j kc flag₀ ni want len n₀ b₀ flag n b = ni - b
+decreases-loop m base kc flag₀ ni want len n₀ b₀ flag n b = ni - b
 
 pattern-requires : tie.Need-pattern-requires invariant-loop decreases-loop
 pattern-requires c κs = search rules
@@ -39,7 +39,7 @@ add-n : tie.Need-overflow-add-n invariant-loop decreases-loop
 add-n c =
     let a = c.before.before.before.before.before.before.before.before.before.before.before.before.before.args in
     let l = c.before.before.before.before.before.before.before.before.loop in
-    omega (arith, c.before.before.before.before.before.before.before.before.before.before.before.before.before.requires.5, l.invariant.0, l.invariant.2.number, count_le (meets (wanted a.step a.base a.j) a.m a.kc.now) l.b, c.wide.ensures.1)
+    omega (arith, c.before.before.before.before.before.before.before.before.before.before.before.before.before.requires.3, l.invariant.0, l.invariant.2.number, count_le (meets a.base a.m a.kc.now) l.b, c.wide.ensures.1)
 
 add-b : tie.Need-overflow-add-b invariant-loop decreases-loop
 add-b c = search rules
@@ -60,8 +60,8 @@ loop-again c =
     let met = c.before.before.before.meet in (
       omega (arith, k.ensures.1),
       met.auto.1.1.1.1.0 ∙ l.invariant.1,
-      flagged_next a.m (wanted a.step a.base a.j) _ a.kc.now _ c.before.before.before.before.before.before.before.before.before.pattern.ensures l.b k.result (l.invariant.2.turns h) (omega (arith, k.ensures.0)) _ _ l.n _
-          (omega (arith, k.ensures.1, l.invariant.1, c.before.before.before.before.before.before.before.before.before.before.before.before.before.requires.6)) (λ z. k.ensures.3 (omega arith)) met.ensures.0 (c.wide.ensures.0 ∙ met.ensures.1) l.invariant.2,
+      flagged_next a.m a.base _ a.kc.now _ c.before.before.before.before.before.before.before.before.before.pattern.ensures l.b k.result (l.invariant.2.turns h) (omega (arith, k.ensures.0)) _ _ l.n _
+          (omega (arith, k.ensures.1, l.invariant.1, c.before.before.before.before.before.before.before.before.before.before.before.before.before.requires.4)) (λ z. k.ensures.3 (omega arith)) met.ensures.0 (c.wide.ensures.0 ∙ met.ensures.1) l.invariant.2,
     )
 
 same_length : tie.Need-same-length invariant-loop decreases-loop
@@ -72,7 +72,7 @@ returns c =
     let a = c.before.before.before.before.before.before.args in
     let l = c.before.loop in
     let e : l.b ≡ length a.kc.now = omega (arith, l.invariant.0) in
-    (λ p h. l.invariant.2.flags p (omega arith), l.invariant.2.number ∙ ap (count (meets (wanted a.step a.base a.j) a.m a.kc.now)) e)
+    (λ p h. l.invariant.2.flags p (omega arith), l.invariant.2.number ∙ ap (count (meets a.base a.m a.kc.now)) e)
 
 pub holders_spec : {M : Type 1} → statement M
 holders_spec =

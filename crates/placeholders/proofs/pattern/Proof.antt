@@ -1,38 +1,29 @@
 -- `placeholders::pattern` meets its contract. Assumes nothing.
 use borrow.Author.Rules.{rules}
-use Prim.Native.Nat.{ℕ, ◌+◌, ◌-◌, ◌%◌, ◌≤◌}
-use mathlib.Core.Path.{◌≡◌, ap}
+use Prim.Native.Nat.{◌-◌, ◌≤◌}
+use mathlib.Core.Path.{◌≡◌}
 use native.Mathlib.Omega.{arith}
 use lib.ListN.{take}
 use lib.Seq.{sets}
-use Rattle.counting.specs.Search.{tabulate}
-use Rattle.rules.specs.Device.{phases}
-use Rattle.rules.specs.Roles.{pattern_start}
-use Rattle.placeholders.specs.Meets.{wanted, Wanted}
-use Rattle.placeholders.proofs.Turns.{first_next, wanted_first, wanted_twice}
+use Rattle.placeholders.specs.Meets.{Wanted}
+use Rattle.placeholders.proofs.Turns.{firstTurn, first_next, wanted_first, wanted_twice}
 use Rattle.placeholders.proofs.pattern.Statement.{statement}
 use Rattle.placeholders.proofs.pattern.Tie as tie
 
 abbrev invariant-loop : tie.invariant-loop
-invariant-loop m step base j want₀ d₀ want d = (d ≤ m) × (want ≡ sets want₀ 0 (take d (tabulate (wanted step base j) m)))
+invariant-loop m base want₀ d₀ want d = (d ≤ m) × (want ≡ sets want₀ 0 (take d (firstTurn m base)))
 
 abbrev decreases-loop : tie.decreases-loop
-decreases-loop m step base j want₀ d₀ want d = m - d
+decreases-loop m base want₀ d₀ want d = m - d
 
 abbrev invariant-loop2 : tie.invariant-loop2
-invariant-loop2 m step base j want₀ d len₀ want len = Wanted m (wanted step base j) len want
+invariant-loop2 m base want₀ d len₀ want len = Wanted m base len want
 
 abbrev decreases-loop2 : tie.decreases-loop2
-decreases-loop2 m step base j want₀ d len₀ want len = 128 - len
+decreases-loop2 m base want₀ d len₀ want len = 128 - len
 
 loop-holds : tie.Need-loop-init invariant-loop decreases-loop invariant-loop2 decreases-loop2
 loop-holds c = search rules
-
-add-pattern-start : tie.Need-overflow-add-pattern-start invariant-loop decreases-loop invariant-loop2 decreases-loop2
-add-pattern-start c = search rules
-
-pattern-start-requires : tie.Need-pattern-start-requires invariant-loop decreases-loop invariant-loop2 decreases-loop2
-pattern-start-requires c κs = (c.before.before.requires.3, omega arith)
 
 add-want : tie.Need-overflow-add-want invariant-loop decreases-loop invariant-loop2 decreases-loop2
 add-want c = search rules
@@ -52,22 +43,17 @@ add-d c = search rules
 loop-less : tie.Need-loop-smaller invariant-loop decreases-loop invariant-loop2 decreases-loop2
 loop-less c = search rules
 
-wants : (step base j d x : ℕ) → x ≡ pattern_start step ((j + d) % phases) → (base + x) % phases ≡ wanted step base j d
-unfolding wanted
-wants step base j d x e = ap (λ (x : ℕ). (base + x) % phases) e
-
 loop-again : tie.Need-loop-preserved invariant-loop decreases-loop invariant-loop2 decreases-loop2
 loop-again c =
-    let a = c.before.before.before.args in
-    let l = c.before.before.loop in
-    let h = c.before.loop-test.true in
-    (omega (arith, h), first_next a.m (wanted a.step a.base a.j) l.d _ a.want.now l.want l.invariant.1 h (wants a.step a.base a.j l.d _ c.pattern-start.ensures.0))
+    let a = c.before.before.args in
+    let l = c.before.loop in
+    (omega arith, first_next a.m a.base l.d a.want.now l.want l.invariant.1 c.loop-test.true)
 
 loop2-holds : tie.Need-loop2-init invariant-loop decreases-loop invariant-loop2 decreases-loop2
 loop2-holds c =
     let g = c.before.before in
     let l = c.before.loop in
-    wanted_first g.args.m (wanted g.args.step g.args.base g.args.j) l.d g.args.want.now l.want g.requires.1 (omega arith) c.loop-test.false g.requires.0 l.invariant.1
+    wanted_first g.args.m g.args.base l.d g.args.want.now l.want g.requires.1 (omega arith) c.loop-test.false g.requires.0 l.invariant.1
 
 twice-requires : tie.Need-twice-requires invariant-loop decreases-loop invariant-loop2 decreases-loop2
 twice-requires c κs = search rules
@@ -93,8 +79,6 @@ pattern_spec =
     invariant-loop2
     decreases-loop2
     loop-holds
-    add-pattern-start
-    pattern-start-requires
     add-want
     cast-want
     mul-want

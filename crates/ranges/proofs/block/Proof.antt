@@ -5,13 +5,12 @@ use Prim.Native.Nat.{ℕ, ◌+◌, ◌-◌, ◌≤◌}
 use native.Mathlib.Nat.{le_antisymm}
 use native.Mathlib.Omega.{arith}
 use lib.ListN.{length}
-use Rattle.ranges.specs.Reach.{runs_max}
 use Rattle.ranges.specs.Swept.{Sweep}
 use Rattle.ranges.proofs.block.Statement.{statement}
 use Rattle.ranges.proofs.block.Tie as tie
 
 abbrev invariant-loop : tie.invariant-loop
-invariant-loop reach size from lo₀ hi₀ p₀ k₀ lo hi p k = Sweep reach size lo hi p.n p.s p.e k × (length lo ≡ runs_max) × (length hi ≡ runs_max) × (from ≤ k) × (k ≤ from + 16)
+invariant-loop reach size from lo₀ hi₀ p₀ k₀ lo hi p k = Sweep reach size lo hi p.n p.s p.e k × (length lo ≡ 2048) × (length hi ≡ 2048) × (from ≤ k) × (k ≤ from + 16)
 
 abbrev decreases-loop : tie.decreases-loop
 decreases-loop reach size from lo₀ hi₀ p₀ k₀ lo hi p k = from + 16 - k
@@ -25,7 +24,7 @@ add-loop c = search rules
 step-requires : tie.Need-step-requires invariant-loop decreases-loop
 step-requires c κs =
     let l = c.before.before.before.loop.invariant in
-    (c.before.before.before.before.requires.0, l.0, l.1, l.2, c.before.before.before.before.requires.4, c.before.before.before.before.requires.5, omega (arith, c.before.before.before.before.requires.6))
+    (c.before.before.before.before.requires.0, l.0, l.1, l.2, c.before.before.before.before.requires.4, omega (arith, c.before.before.before.before.requires.5))
 
 add-k : tie.Need-overflow-add-k invariant-loop decreases-loop
 add-k c = search rules

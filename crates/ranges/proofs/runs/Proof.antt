@@ -4,14 +4,14 @@ use mathlib.Core.Path.{◌≡◌, sym, ap, ◌∙◌, subst}
 use Prim.Native.Nat.{ℕ, ◌+◌, ◌-◌, ◌*◌, ◌≤◌}
 use native.Mathlib.Omega.{arith}
 use lib.ListN.{length}
-use Rattle.ranges.specs.Reach.{blocks_max, runs_max, far}
+use Rattle.ranges.specs.Reach.{far}
 use Rattle.ranges.specs.Swept.{Sweep}
 use Rattle.ranges.proofs.SweepLaws.{sweep_start, sweep_skip, sweep_end}
 use Rattle.ranges.proofs.runs.Statement.{statement}
 use Rattle.ranges.proofs.runs.Tie as tie
 
 abbrev invariant-loop : tie.invariant-loop
-invariant-loop reach hot size lo₀ hi₀ o₀ b₀ lo hi o b = Sweep reach size lo hi o.n o.s o.e (16 * b) × (length lo ≡ runs_max) × (length hi ≡ runs_max) × (16 * b ≤ size) × (b ≤ blocks_max)
+invariant-loop reach hot size lo₀ hi₀ o₀ b₀ lo hi o b = Sweep reach size lo hi o.n o.s o.e (16 * b) × (length lo ≡ 2048) × (length hi ≡ 2048) × (16 * b ≤ size) × (b ≤ 256)
 
 abbrev decreases-loop : tie.decreases-loop
 decreases-loop reach hot size lo₀ hi₀ o₀ b₀ lo hi o b = size - 16 * b
@@ -38,13 +38,13 @@ loop-again : tie.Need-loop-preserved invariant-loop decreases-loop
 loop-again c =
     let l = c.before.before.before.loop in
     let g = c.before.before.before.before in
-    (sweep_skip _ _ g.requires.0 _ _ _ _ _ (16 * l.b) _ (omega arith) (λ j u v. g.requires.1.idle l.b c.if1.true j u (omega arith)) l.invariant.0, l.invariant.1, l.invariant.2, omega (arith, g.requires.6, c.before.before.loop-test.true), omega (arith, g.requires.4, c.before.before.loop-test.true))
+    (sweep_skip _ _ g.requires.0 _ _ _ _ _ (16 * l.b) _ (omega arith) (λ j u v. g.requires.1.idle l.b c.if1.true j u (omega arith)) l.invariant.0, l.invariant.1, l.invariant.2, omega (arith, g.requires.5, c.before.before.loop-test.true), omega (arith, g.requires.4, c.before.before.loop-test.true))
 
 block-requires : tie.Need-block-requires invariant-loop decreases-loop
 block-requires c κs =
     let l = c.before.before.before.before.before.loop in
     let g = c.before.before.before.before.before.before in
-    (g.requires.0, l.invariant.0, l.invariant.1, l.invariant.2, g.requires.4, g.requires.5, omega (arith, g.requires.6, c.before.before.before.before.loop-test.true))
+    (g.requires.0, l.invariant.0, l.invariant.1, l.invariant.2, g.requires.4, omega (arith, g.requires.5, c.before.before.before.before.loop-test.true))
 
 loop-less-2 : tie.Need-loop-smaller-2 invariant-loop decreases-loop
 loop-less-2 c = search rules
@@ -54,14 +54,14 @@ loop-again-2 c =
     let l = c.before.before.before.before.before.before.loop in
     let g = c.before.before.before.before.before.before.before in
     let e : 16 * l.b + 16 ≡ 16 * (l.b + 1) = omega arith in
-    (rw e at c.block.ensures.0, c.block.ensures.1, c.block.ensures.2, omega (arith, g.requires.6, c.before.before.before.before.before.loop-test.true), omega (arith, g.requires.4, c.before.before.before.before.before.loop-test.true))
+    (rw e at c.block.ensures.0, c.block.ensures.1, c.block.ensures.2, omega (arith, g.requires.5, c.before.before.before.before.before.loop-test.true), omega (arith, g.requires.4, c.before.before.before.before.before.loop-test.true))
 
 close-requires : tie.Need-close-requires invariant-loop decreases-loop
 close-requires c κs =
     let l = c.before.before.before.loop in
     let g = c.before.before.before.before in
     let e : 16 * l.b ≡ g.args.size = omega (arith, l.invariant.3, c.before.before.loop-test.false) in
-    (g.requires.0, subst (λ (k : ℕ). Sweep g.args.reach.now g.args.size l.lo l.hi l.o.n l.o.s l.o.e k) e l.invariant.0, l.invariant.1, l.invariant.2, g.requires.4, g.requires.5, omega arith)
+    (g.requires.0, subst (λ (k : ℕ). Sweep g.args.reach.now g.args.size l.lo l.hi l.o.n l.o.s l.o.e k) e l.invariant.0, l.invariant.1, l.invariant.2, g.requires.4)
 
 returns : tie.Need-returns invariant-loop decreases-loop
 returns c =
@@ -69,7 +69,7 @@ returns c =
     let g = c.before.before.before.before.before in
     let e : 16 * l.b ≡ g.args.size = omega (arith, l.invariant.3, c.before.before.before.loop-test.false) in
     let k = c.close.ensures in
-    (sweep_end _ _ g.requires.0 _ _ _ _ k.0 (sym (ap (far g.args.reach.now) e) ∙ l.invariant.0.upto), omega (arith, k.0.few, g.requires.5), k.1, k.2)
+    (sweep_end _ _ g.requires.0 _ _ _ _ k.0 (sym (ap (far g.args.reach.now) e) ∙ l.invariant.0.upto), omega (arith, k.0.many, l.invariant.0.top, g.requires.4), k.1, k.2)
 
 pub runs_spec : {M : Type 1} → statement M
 runs_spec =

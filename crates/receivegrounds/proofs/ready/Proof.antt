@@ -53,7 +53,7 @@ slice-aggregate-ready c = refl
 ready-requires : tie.Need-ready-requires
 ready-requires c κs =
     let pre = c.before.before.before.before.before.before.before.before.before.before.requires in
-    (pre.0, pre.1, λ h. omega (arith, c.before.before.before.before.out_phase_lem.ensures), pre.0.fits.few, pre.2)
+    (pre.0, pre.1, λ h. omega (arith, c.before.before.before.before.out_phase_lem.ensures), refl, pre.2)
 
 same_length : tie.Need-same-length
 same_length c = c.before.before.before.before.before.ready.auto.1.1.1.1.1.1.1.1.1.1.0

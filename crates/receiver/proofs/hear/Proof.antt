@@ -25,7 +25,7 @@ abbrev frame : tie.Start → Frame
 frame g = frame_of g.args.d (plan_of g.args.plan.now)
 
 -- its cells fit the array, and so many places of it are lent
-low : (g : tie.Start) → g.args.n ≤ capacity
+low : (g : tie.Start) → g.args.n ≤ 4096
 unfolding frame_of
 low g = omega (arith, g.requires.1.few, g.requires.0.few)
 

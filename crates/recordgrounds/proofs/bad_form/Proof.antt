@@ -1,39 +1,20 @@
 -- `recordgrounds::bad_form` meets its contract: each return follows from the tests that led to it. Assumes nothing.
-use borrow.Author.Rules.{rules}
-use mathlib.Core.Path.{◌≡◌, sym, ◌∙◌}
-use mathlib.Core.Bool.{true, false}
 use borrow.Author.Tests.{ne_eqb}
-use Rattle.rules.specs.Plan.{is_plc, is_pilot}
 use Rattle.rules.specs.Grounds.{bad_form}
-use Rattle.records.specs.Read.{entry_of}
-use Rattle.recordgrounds.proofs.OneKind.{plc_no_pilot}
 use Rattle.recordgrounds.proofs.bad_form.Statement.{statement}
 use Rattle.recordgrounds.proofs.bad_form.Tie as tie
 
--- the record gives L and M, so it is no pilot; or it does not
-plc : (c : tie.Then1) → is_plc (entry_of c.before.before.args.e) ≡ true
-plc c = sym c.before.is-plc.ensures ∙ c.if1.true
-
-no_pilot : (c : tie.Then1) → is_pilot (entry_of c.before.before.args.e) ≡ false
-no_pilot c = plc_no_pilot (entry_of c.before.before.args.e) (plc c)
-
-no_plc : (c : tie.Else1) → is_plc (entry_of c.before.before.args.e) ≡ false
-no_plc c = sym c.before.is-plc.ensures ∙ c.if1.false
-
-is-plc-requires : tie.Need-is-plc-requires
-is-plc-requires c κs = search rules
-
 returns : tie.Need-returns
 unfolding bad_form
-returns c = simp (plc c.before.before, no_pilot c.before.before, ne_eqb _ _ c.if2.true)
+returns c = simp (c.before.before.if1.true, ne_eqb _ _ c.if2.true)
 
 returns-2 : tie.Need-returns-2
 unfolding bad_form
-returns-2 c = simp (plc c.before.before.before.before, no_pilot c.before.before.before.before, c.before.before.if2.false, ne_eqb _ _ c.if3.true)
+returns-2 c = simp (c.before.before.before.before.if1.true, c.before.before.if2.false, ne_eqb _ _ c.if3.true)
 
 returns-3 : tie.Need-returns-3
 unfolding bad_form
-returns-3 c = simp (plc c.before.before.before.before, no_pilot c.before.before.before.before, c.before.before.if2.false, c.if3.false)
+returns-3 c = simp (c.before.before.before.before.if1.true, c.before.before.if2.false, c.if3.false)
 
 returns-4 : tie.Need-returns-4
 unfolding bad_form
@@ -65,7 +46,7 @@ returns-10 c = simp (c.before.before.before.before.before.before.if7.true, ne_eq
 
 returns-11 : tie.Need-returns-11
 unfolding bad_form
-returns-11 c = simp (no_plc c.before.before.before.before, ne_eqb _ _ c.before.before.if4.false, ne_eqb _ _ c.if7.false)
+returns-11 c = simp (ne_eqb _ _ c.before.before.before.before.if1.false, ne_eqb _ _ c.before.before.if4.false, ne_eqb _ _ c.if7.false)
 
 pub bad_form_spec : {M : Type 1} → statement M
-bad_form_spec = tie.close (tie.spec is-plc-requires returns returns-2 returns-3 returns-4 returns-5 returns-6 returns-7 returns-8 returns-9 returns-10 returns-11)
+bad_form_spec = tie.close (tie.spec returns returns-2 returns-3 returns-4 returns-5 returns-6 returns-7 returns-8 returns-9 returns-10 returns-11)

@@ -1,50 +1,28 @@
 -- `recordgrounds::bad_numbers` meets its contract: each return follows from the tests that led to it. Assumes nothing.
-use borrow.Author.Rules.{rules}
-use mathlib.Core.Path.{◌≡◌, sym, ◌∙◌}
-use mathlib.Core.Bool.{true, false}
 use borrow.Author.Tests.{ne_eqb, lt-ltb, le-ltb, le-leb, lt-leb}
-use Rattle.rules.specs.Plan.{is_plc, is_range, is_pilot}
 use Rattle.rules.specs.Grounds.{bad_numbers}
-use Rattle.records.specs.Read.{entry_of}
-use Rattle.recordgrounds.proofs.OneKind.{plc_no_range, plc_no_pilot}
 use Rattle.recordgrounds.proofs.bad_numbers.Statement.{statement}
 use Rattle.recordgrounds.proofs.bad_numbers.Tie as tie
 
--- the record gives L and M, so it is neither a range nor a pilot; or it does not
-plc : (c : tie.Then1) → is_plc (entry_of c.before.before.args.e) ≡ true
-plc c = sym c.before.is-plc.ensures ∙ c.if1.true
-
-no_range : (c : tie.Then1) → is_range (entry_of c.before.before.args.e) ≡ false
-no_range c = plc_no_range (entry_of c.before.before.args.e) (plc c)
-
-no_pilot : (c : tie.Then1) → is_pilot (entry_of c.before.before.args.e) ≡ false
-no_pilot c = plc_no_pilot (entry_of c.before.before.args.e) (plc c)
-
-no_plc : (c : tie.Else1) → is_plc (entry_of c.before.before.args.e) ≡ false
-no_plc c = sym c.before.is-plc.ensures ∙ c.if1.false
-
-is-plc-requires : tie.Need-is-plc-requires
-is-plc-requires c κs = search rules
-
 returns : tie.Need-returns
 unfolding bad_numbers
-returns c = simp (plc c.before.before.before, no_range c.before.before.before, no_pilot c.before.before.before, lt-ltb _ _ c.if2.true)
+returns c = simp (c.before.before.before.if1.true, lt-ltb _ _ c.if2.true)
 
 returns-2 : tie.Need-returns-2
 unfolding bad_numbers
-returns-2 c = simp (plc c.before.before.before.before.before.before, no_range c.before.before.before.before.before.before, no_pilot c.before.before.before.before.before.before, le-ltb _ _ c.before.before.before.if2.false, lt-ltb _ _ c.if3.true)
+returns-2 c = simp (c.before.before.before.before.before.before.if1.true, le-ltb _ _ c.before.before.before.if2.false, lt-ltb _ _ c.if3.true)
 
 returns-3 : tie.Need-returns-3
 unfolding bad_numbers
-returns-3 c = simp (plc c.before.before.before.before.before.before.before.before, no_range c.before.before.before.before.before.before.before.before, no_pilot c.before.before.before.before.before.before.before.before, le-ltb _ _ c.before.before.before.before.before.if2.false, le-ltb _ _ c.before.before.if3.false, lt-ltb _ _ c.if4.true)
+returns-3 c = simp (c.before.before.before.before.before.before.before.before.if1.true, le-ltb _ _ c.before.before.before.before.before.if2.false, le-ltb _ _ c.before.before.if3.false, lt-ltb _ _ c.if4.true)
 
 returns-4 : tie.Need-returns-4
 unfolding bad_numbers
-returns-4 c = simp (plc c.before.before.before.before.before.before.before.before.before.before.before, no_range c.before.before.before.before.before.before.before.before.before.before.before, no_pilot c.before.before.before.before.before.before.before.before.before.before.before, le-ltb _ _ c.before.before.before.before.before.before.before.before.if2.false, le-ltb _ _ c.before.before.before.before.before.if3.false, le-ltb _ _ c.before.before.before.if4.false, lt-ltb _ _ c.if5.true)
+returns-4 c = simp (c.before.before.before.before.before.before.before.before.before.before.before.if1.true, le-ltb _ _ c.before.before.before.before.before.before.before.before.if2.false, le-ltb _ _ c.before.before.before.before.before.if3.false, le-ltb _ _ c.before.before.before.if4.false, lt-ltb _ _ c.if5.true)
 
 returns-5 : tie.Need-returns-5
 unfolding bad_numbers
-returns-5 c = simp (plc c.before.before.before.before.before.before.before.before.before.before.before, no_range c.before.before.before.before.before.before.before.before.before.before.before, no_pilot c.before.before.before.before.before.before.before.before.before.before.before, le-ltb _ _ c.before.before.before.before.before.before.before.before.if2.false, le-ltb _ _ c.before.before.before.before.before.if3.false, le-ltb _ _ c.before.before.before.if4.false, le-ltb _ _ c.if5.false)
+returns-5 c = simp (c.before.before.before.before.before.before.before.before.before.before.before.if1.true, le-ltb _ _ c.before.before.before.before.before.before.before.before.if2.false, le-ltb _ _ c.before.before.before.before.before.if3.false, le-ltb _ _ c.before.before.before.if4.false, le-ltb _ _ c.if5.false)
 
 returns-6 : tie.Need-returns-6
 unfolding bad_numbers
@@ -72,7 +50,7 @@ returns-11 c = simp (c.before.before.before.if10.true, le-leb _ _ c.if11.false)
 
 returns-12 : tie.Need-returns-12
 unfolding bad_numbers
-returns-12 c = simp (no_plc c.before.before.before.before, ne_eqb _ _ c.before.before.if6.false, ne_eqb _ _ c.if10.false)
+returns-12 c = simp (ne_eqb _ _ c.before.before.before.before.if1.false, ne_eqb _ _ c.before.before.if6.false, ne_eqb _ _ c.if10.false)
 
 pub bad_numbers_spec : {M : Type 1} → statement M
-bad_numbers_spec = tie.close (tie.spec is-plc-requires returns returns-2 returns-3 returns-4 returns-5 returns-6 returns-7 returns-8 returns-9 returns-10 returns-11 returns-12)
+bad_numbers_spec = tie.close (tie.spec returns returns-2 returns-3 returns-4 returns-5 returns-6 returns-7 returns-8 returns-9 returns-10 returns-11 returns-12)

@@ -64,22 +64,25 @@ returns-4 c =
     let g = from2 o in
     role_is g.args.d (plan_of g.args.plan.now) g.args.j g.args.k false false true _ (active o.before) (off o) (told_pilot g.args.d (plan_of g.args.plan.now) g.args.k g.args.m g.pre.1 (active o.before) (off o) c.if5.true) refl
 
-pattern-at-requires : tie.Need-pattern-at-requires
-pattern-at-requires c κs = search rules
+add-if6 : tie.Need-overflow-add-if6
+add-if6 c = search rules
+
+add-if6-2 : tie.Need-overflow-add-if6-2
+add-if6-2 c = search rules
 
 returns-5 : tie.Need-returns-5
 returns-5 c =
     let o = c.before.before.before.before.before in
     let g = from2 o in
     role_is g.args.d (plan_of g.args.plan.now) g.args.j g.args.k false false false true (active o.before) (off o) (no_pilot c.before.before)
-    (scattered_is g.args.d (plan_of g.args.plan.now) g.args.l g.pre.3 g.args.j g.args.k true _ c.before.pattern-at.ensures.0 (eq-eqb _ _ c.if6.true))
+    (scattered_is g.args.d (plan_of g.args.plan.now) g.args.l g.pre.3 g.args.j g.args.k true (eq-eqb _ _ c.if6.true))
 
 returns-6 : tie.Need-returns-6
 returns-6 c =
     let o = c.before.before.before.before.before in
     let g = from2 o in
     role_is g.args.d (plan_of g.args.plan.now) g.args.j g.args.k false false false false (active o.before) (off o) (no_pilot c.before.before)
-    (scattered_is g.args.d (plan_of g.args.plan.now) g.args.l g.pre.3 g.args.j g.args.k false _ c.before.pattern-at.ensures.0 (ne_eqb _ _ c.if6.false))
+    (scattered_is g.args.d (plan_of g.args.plan.now) g.args.l g.pre.3 g.args.j g.args.k false (ne_eqb _ _ c.if6.false))
 
 pub role_test_spec : {M : Type 1} → statement M
 role_test_spec =
@@ -91,6 +94,7 @@ role_test_spec =
     is-among-requires
     returns-3
     returns-4
-    pattern-at-requires
+    add-if6
+    add-if6-2
     returns-5
     returns-6)

@@ -157,7 +157,7 @@ ready-requires : tie.Need-ready-requires
 ready-requires c κs =
     let g = c.before.before.before.before.before.before.before.before.before.before.before in
     let a = g.args in
-    (subst (λ (n : ℕ). Ready a.d a.plan.now n a.marks.now) (sym (part_size a.n (low g))) g.requires.0, deep c.before.before.before.before.before.before, λ h. omega (arith, h), omega (arith, g.requires.3, g.requires.0.fits.few), refl)
+    (subst (λ (n : ℕ). Ready a.d a.plan.now n a.marks.now) (sym (part_size a.n (low g))) g.requires.0, deep c.before.before.before.before.before.before, λ h. omega (arith, h), g.requires.3, refl)
 
 enum-known-g : tie.Need-enum-known-g
 enum-known-g c = search rules

@@ -8,7 +8,6 @@ use Rattle.counting.specs.declared.Found.{Found}
 use Rattle.counting.specs.Search.{count, lowest, tabulate, is_zero}
 use Rattle.counting.specs.Answer.{place_of}
 use Rattle.counting.proofs.Lists.{length_tabulate}
-use Rattle.rules.specs.Fits.{capacity}
 use Rattle.rules.specs.Plan.{plan_of}
 use Rattle.rules.specs.Grounds.{ground?}
 use Rattle.rules.specs.Frame.{Frame, frame_of}
@@ -27,7 +26,7 @@ use Rattle.sending.proofs.fill_checked.Tie as tie
 abbrev frame : tie.Start → Frame
 frame g = frame_of g.args.d (plan_of g.args.plan.now)
 
-low : (g : tie.Start) → length g.args.x.now ≤ capacity
+low : (g : tie.Start) → length g.args.x.now ≤ 4096
 low g = omega (arith, g.requires.2, cells_low g.args.d (plan_of g.args.plan.now) g.requires.0)
 
 -- as many data as data cells

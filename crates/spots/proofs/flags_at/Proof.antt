@@ -18,20 +18,16 @@ number-at-requires c κs = search rules
 add-holders : tie.Need-overflow-add-holders
 add-holders c = search rules
 
+add-holders-2 : tie.Need-overflow-add-holders-2
+add-holders-2 c = search rules
+
 holders-requires : tie.Need-holders-requires
 unfolding plan_of frame_of
 holders-requires c κs =
     let start = c.before.before.before.before.before.before in
     let pre = start.requires in
-    let fits = pre.0 in (
-      pre.4,
-      pre.5,
-      fits.step,
-      omega (arith, c.before.before.number_at.ensures.0, pre.2, fits.plc_high, fits.few),
-      pre.6,
-      omega (arith, pre.7, cells_le (frame_of start.args.d (plan_of start.args.plan.now)), fits.few),
-      pre.9,
-    )
+    let fits = pre.0 in
+    (pre.4, pre.5, omega (arith, c.before.before.number_at.ensures.0, pre.2, pre.6, fits.plc_high, fits.few), omega (arith, pre.7, cells_le (frame_of start.args.d (plan_of start.args.plan.now)), fits.few), pre.9)
 
 sub-result : tie.Need-overflow-sub-result
 sub-result c =
@@ -50,8 +46,8 @@ returns c =
     let pre = start.requires in
     let hold = c.before.before.holders in
     let base = ap (λ (x : ℕ). x + a.d.plc_width) c.before.before.before.before.before.number_at.ensures.0 in
-    flags_are (frame_of a.d (plan_of a.plan.now)) _ _ (turning_of a.d (plan_of a.plan.now) pre.0) a.j a.kc.now _ _
-    pre.3 base pre.8 pre.7 hold.new.1.1.1.1.1.0 hold.result hold.ensures.0 hold.ensures.1
+    flags_are (frame_of a.d (plan_of a.plan.now)) _ (turning_of a.d (plan_of a.plan.now)) a.j a.kc.now _ _
+    pre.3 base pre.8 pre.7 hold.new.1.1.1.0 hold.result hold.ensures.0 hold.ensures.1
 
 pub flags_at_spec : {M : Type 1} → statement M
 flags_at_spec =
@@ -59,6 +55,7 @@ flags_at_spec =
     (tie.spec
     number-at-requires
     add-holders
+    add-holders-2
     holders-requires
     sub-result
     same_length

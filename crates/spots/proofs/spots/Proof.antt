@@ -9,7 +9,7 @@ use Rattle.rules.specs.Frame.{frame_of, cells}
 use Rattle.walk.specs.Walk.{walk_cell}
 use Rattle.walk.specs.Stores.{stores}
 use Rattle.walk.proofs.Walks.{plan_reads}
-use Rattle.spots.proofs.Frames.{cells_le, spots_are}
+use Rattle.spots.proofs.Frames.{cells_few, spots_are}
 use Rattle.spots.proofs.Plans.{tied_of}
 use Rattle.spots.proofs.spots.Statement.{statement}
 use Rattle.spots.proofs.spots.Tie as tie
@@ -18,14 +18,11 @@ carriers-requires : tie.Need-carriers-requires
 carriers-requires c κs = search rules
 
 cell-carriers-requires : tie.Need-cell-carriers-requires
-unfolding frame_of
 cell-carriers-requires c κs =
     let start = c.before.before.before.before.before.before.before.before.before.before in
-    let few = cells_le (frame_of start.args.d (plan_of start.args.plan.now)) in (
-      start.requires.0.rows,
-      omega (arith, few, start.requires.0.few, start.requires.3),
-      omega (arith, few, start.requires.2, start.requires.3, c.before.before.before.before.carriers.auto.1.1.0),
-    )
+    let p = plan_of start.args.plan.now in
+    let low = cells_few (frame_of start.args.d p) start.args.marks.now (tied_of start.args.d p start.args.marks.now start.requires.0 start.requires.1.marked) in
+    (start.requires.0.rows, omega (arith, low, start.requires.3), omega (arith, low, start.requires.2, start.requires.3, c.before.before.before.before.carriers.auto.1.1.0))
 
 same_length : tie.Need-same-length
 same_length c = search rules

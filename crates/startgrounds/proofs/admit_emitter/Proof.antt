@@ -121,7 +121,7 @@ slice-aggregate-spots-2 c = sym (size c.before.before.before.before.before.befor
 spots-requires : tie.Need-spots-requires
 spots-requires c κs =
     let k = c.before.before.before.before.before.before.before.before.before in
-    ((start k).requires.0, studied k, (start k).requires.0.few, size k ∙ (known k).all)
+    ((start k).requires.0, studied k, refl, size k ∙ (known k).all)
 
 returns-3 : tie.Need-returns-3
 returns-3 c =

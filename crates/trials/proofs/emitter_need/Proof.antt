@@ -3,7 +3,7 @@ use borrow.Author.Rules.{rules}
 use mathlib.Core.Path.{◌≡◌, sym, ap, ◌∙◌}
 use native.Mathlib.Omega.{arith}
 use Rattle.rules.specs.declared.Verdict.TheVariants.{Accepted}
-use Rattle.rules.specs.Device.{device_of}
+use Rattle.rules.specs.Device.{khz50}
 use Rattle.rules.specs.Plan.{plan_of}
 use Rattle.rules.specs.Grounds.{verdict}
 use Rattle.rules.specs.Frame.{frame_of}
@@ -21,7 +21,7 @@ enum-known-n : tie.Need-enum-known-n
 enum-known-n c = search rules
 
 -- the plan is accepted
-accepted : (c : tie.After-known-told) → Accepted c.before.n.given.0.0 ≡ verdict (device_of c.before.before.before.before.before.args.plan.now) c.before.before.before.before.before.args.plan.now
+accepted : (c : tie.After-known-told) → Accepted c.before.n.given.0.0 ≡ verdict khz50 c.before.before.before.before.before.args.plan.now
 accepted c = sym c.before.n.given.1 ∙ c.before.before.before.judge.ensures
 
 known : (c : tie.After-known-told) → Counted c.before.before.before.before.before.args.plan.now c.before.n.given.0.0

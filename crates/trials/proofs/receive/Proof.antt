@@ -1,6 +1,6 @@
 -- `trials::receive` meets its contract. Assumes nothing.
 use borrow.Author.Rules.{rules}
-use Rattle.rules.specs.Device.{device_of}
+use Rattle.rules.specs.Device.{khz50}
 use Rattle.rules.specs.Receive.{receive_step}
 use Rattle.trials.proofs.PartLaws.{heard_over_lem}
 use Rattle.trials.proofs.receive.Statement.{statement}
@@ -43,7 +43,7 @@ returns : tie.Need-returns
 returns c =
     let a = c.before.before.before.before.before.before.before.before.before.before.before.before.before.before.before.before.before.before.args in
     heard_over_lem c.before.before.before.before.before.before.before.before.before.before.before.at_most.ensures.1 c.before.before.before.before.before.before.before.before.at-most3.ensures.1 c.before.before.before.before.before.before.before.before.before.before.at-most2.ensures.1.same
-    (receive_step (device_of a.plan.now) a.plan.now a.profile.now (record { phase = a.given.phase; heard = a.given.heard }))
+    (receive_step khz50 a.plan.now a.profile.now (record { phase = a.given.phase; heard = a.given.heard }))
     c.before.before.before.before.receive.ensures
 
 pub receive_spec : {M : Type 1} → statement M

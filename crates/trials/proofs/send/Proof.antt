@@ -1,7 +1,7 @@
 -- `trials::send` meets its contract. Assumes nothing.
 use borrow.Author.Rules.{rules}
 use mathlib.Core.Path.{refl}
-use Rattle.rules.specs.Device.{device_of}
+use Rattle.rules.specs.Device.{khz50}
 use Rattle.rules.specs.Steps.{emit_step, flush_step}
 use Rattle.trials.proofs.PartLaws.{sent_over_lem}
 use Rattle.trials.proofs.send.Statement.{statement}
@@ -39,7 +39,7 @@ returns c =
     let a = c.before.before.before.before.before.before.before.before.before.before.before.before.before.before.before.before.before.args in
     rw c.before.before.before.before.before.before.before.if1.true
     (sent_over_lem c.before.before.before.before.before.before.before.before.before.before.at_most.ensures.1 c.before.before.before.before.before.before.before.before.at-most2.ensures.1 (refl {a = a.cells.now})
-    (λ s x y. flush_step (device_of a.plan.now) a.plan.now (record { phase = a.given.phase }) s y)
+    (λ s x y. flush_step khz50 a.plan.now (record { phase = a.given.phase }) s y)
     c.before.before.before.before.flush.ensures)
 
 at-most-requires-3 : tie.Need-at-most-requires-3
@@ -74,7 +74,7 @@ returns-2 c =
     let a = c.before.before.before.before.before.before.before.before.before.before.before.before.before.before.before.before.before.before.before.args in
     rw c.before.before.before.before.before.before.before.before.before.if1.false
     (sent_over_lem c.before.before.before.before.before.before.before.before.before.before.before.before.at_most.ensures.1 c.before.before.before.before.before.before.before.before.before.before.at-most2.ensures.1 c.before.before.before.before.before.before.before.before.at-most3.ensures.1.same
-    (emit_step (device_of a.plan.now) a.plan.now a.profile.now (record { phase = a.given.phase }))
+    (emit_step khz50 a.plan.now a.profile.now (record { phase = a.given.phase }))
     c.before.before.before.before.emit.ensures)
 
 pub send_spec : {M : Type 1} → statement M

@@ -4,9 +4,10 @@ use mathlib.Core.Path.{sym, ap, ◌∙◌, subst}
 use native.Mathlib.Omega.{arith}
 use lib.Seq.{length-take-le}
 use Rattle.rules.specs.declared.Verdict.{Verdict}
-use Rattle.rules.specs.Device.{device_of}
+use Rattle.rules.specs.Device.{khz50}
 use Rattle.rules.specs.Fits.{Fits}
 use Rattle.rules.specs.Grounds.{verdict}
+use Rattle.rules.proofs.Sizes.{khz50_fits}
 use Rattle.exclusion.specs.Copied.{Copied, CopiedIf}
 use Rattle.report.specs.PlanLine.{plan_line}
 use Rattle.tryreport.proofs.TryLines.{refused_try, copy_line, copy_accepted}
@@ -17,20 +18,20 @@ use Rattle.tryreport.proofs.try_line.Tie as tie
 made : (c : tie.After-known-told2) →
     let g = c.before.before.before.before.before.before.before.before in
     let r = c.before.before.before.before.try-range in
-    Copied r.result.length c.before.before.before.before.before.before.device-of.result g.args.plan.now g.args.first g.args.last r.new.1.1.1.1.0
+    Copied r.result.length c.before.before.before.before.before.before.khz50-device.result g.args.plan.now g.args.first g.args.last r.new.1.1.1.1.0
 made c =
     let g = c.before.before.before.before.before.before.before.before in
     let r = c.before.before.before.before.try-range in
-    subst (λ (v : Verdict). CopiedIf v r.result.length c.before.before.before.before.before.before.device-of.result g.args.plan.now g.args.first g.args.last r.new.1.1.1.1.0) c.before.verdict2.given.1 r.ensures.1
+    subst (λ (v : Verdict). CopiedIf v r.result.length c.before.before.before.before.before.before.khz50-device.result g.args.plan.now g.args.first g.args.last r.new.1.1.1.1.0) c.before.verdict2.given.1 r.ensures.1
 
-device-of-requires : tie.Need-device-of-requires
-device-of-requires c κs = search rules
+khz50-device-requires : tie.Need-khz50-device-requires
+khz50-device-requires c κs = search rules
 
 slice-aggregate-try-range : tie.Need-slice-aggregate-try-range
 slice-aggregate-try-range c = search rules
 
 try-range-requires : tie.Need-try-range-requires
-try-range-requires c κs = (c.before.device-of.ensures.1, omega arith)
+try-range-requires c κs = (subst Fits (sym c.before.khz50-device.ensures) khz50_fits, omega arith)
 
 enum-known-verdict : tie.Need-enum-known-verdict
 enum-known-verdict c = search rules
@@ -50,20 +51,20 @@ slice-aggregate-counted-line c = sym (length-take-le _ _ (made c.before).few)
 counted-line-requires : tie.Need-counted-line-requires
 counted-line-requires c κs =
     let g = c.before.before.before.before.before.before.before.before.before in
-    let d = c.before.before.before.before.before.before.before.device-of in
+    let d = c.before.before.before.before.before.before.before.khz50-device in
     let m = made c.before in
     copy_accepted d.result d.ensures g.args.plan.now g.args.first g.args.last m.fine _ (sym c.before.before.verdict2.given.1 ∙ c.before.before.before.before.before.try-range.ensures.0) ∙ sym (ap (verdict khz50) m.copy)
 
 returns : tie.Need-returns
 returns c =
     let g = c.before.before.before.before.before.before.before.before.before in
-    let d = c.before.before.before.before.before.before.before.device-of in
+    let d = c.before.before.before.before.before.before.before.khz50-device in
     (c.refused_line_lem.ensures.0 ∙ refused_try d.result d.ensures g.args.plan.now g.args.first g.args.last _ _ (sym c.before.before.verdict.given.1 ∙ c.before.before.before.before.before.try-range.ensures.0), c.refused_line_lem.ensures.1)
 
 returns-2 : tie.Need-returns-2
 returns-2 c =
     let g = c.before.before.before.before.before.before.before.before.before.before in
-    let d = c.before.before.before.before.before.before.before.before.device-of in
+    let d = c.before.before.before.before.before.before.before.before.khz50-device in
     let m = made c.before.before in
     (c.counted-line.ensures.0 ∙ ap plan_line m.copy ∙ copy_line d.result d.ensures g.args.plan.now g.args.first g.args.last m.fine, c.counted-line.ensures.1)
 
@@ -71,7 +72,7 @@ pub try_line_spec : {M : Type 1} → statement M
 try_line_spec =
     tie.close
     (tie.spec
-    device-of-requires
+    khz50-device-requires
     slice-aggregate-try-range
     try-range-requires
     enum-known-verdict
