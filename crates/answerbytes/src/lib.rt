@@ -1,4 +1,6 @@
 // The layout of an answer to a C host: `tell` writes its numbers as 16 bytes. It asks for a buffer of that length: its callers have tried it.
+#![tactic(auto)]
+
 ghost use Rattle.std.specs.Prelude.{◌≡◌, ◌+◌, ◌≤◌, length};
 ghost use Rattle.std.proofs.lemmas.List.Edits.{sets};
 ghost use Rattle.answerbytes.specs.Layout.{four, written};

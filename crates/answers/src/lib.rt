@@ -1,5 +1,7 @@
 // The numbers that a C host is told of each answer of an entry: what a call returns, and the four numbers of its answer buffer. Crate
 // answerbytes lays them out.
+#![tactic(auto)]
+
 ghost use Rattle.std.specs.Prelude.{◌≡◌};
 ghost use Rattle.answers.specs.Answer.{role_number, valued, refusal, reasoned, told_verdict, told_role, told_why, told_count, told_start, told_listen, told_send, told_receive, told_modulate};
 

@@ -1,5 +1,7 @@
 // Numbers and files that a program is given as words of its arguments. No contract can say which words a program was started with, nor what a
 // file holds; those here say how large the numbers are, crate words which number a word spells, and how many bytes of a file were read.
+#![tactic(auto)]
+
 ghost use Rattle.console.specs.Reading.{Holds};
 ghost use Rattle.words.specs.Word.{UpTo};
 

@@ -1,5 +1,7 @@
 // What arrives: the lowest subcarrier whose cell is not what its role asks for (ground 20), and the arriving cells in cell order. The test
 // counts the cells that fit, without a branch to leave by, and looks for the wrong one only where some do not.
+#![tactic(auto)]
+
 ghost use Rattle.std.specs.Prelude.{◌≡◌, true, not, ℕ, ◌≤◌, ◌<◌, length, get_or};
 ghost use Rattle.counting.specs.Search.{bit, count, lowest};
 ghost use Rattle.counting.specs.Answer.{place_of};

@@ -1,5 +1,7 @@
 // The bands of a plan from the sorted runs of its excluded subcarriers, and the individually excluded inside them.
 // `plan` is lent for the contracts alone.
+#![tactic(auto)]
+
 ghost use Rattle.std.specs.Prelude.{◌≡◌, ◌||◌, leb, length, ◌+◌, ◌-◌, ◌≤◌, ◌<◌};
 ghost use Rattle.rules.specs.Plan.{plan_of};
 ghost use Rattle.rules.specs.Fits.{Fits, capacity, limit};

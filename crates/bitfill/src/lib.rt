@@ -1,5 +1,7 @@
 // Cells of given loads filled from a bit stream in bytes. As long as 64 of the bits are left, two cells at a time come from a window of eight
 // bytes, without a branch; the last cells come one by one from a window of four, which may reach past the end of the stream.
+#![tactic(auto)]
+
 ghost use Rattle.std.specs.Prelude.{◌≡◌, ℕ, ◌+◌, ◌*◌, ◌/◌, ◌%◌, ◌^◌, ◌≤◌, ◌<◌, length, get_or, take, set};
 ghost use Rattle.rules.specs.Bits.{total, filled_from};
 

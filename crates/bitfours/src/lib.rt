@@ -1,4 +1,6 @@
 // The bits of four cells as one number, for the way back (crate bitunfill), which writes them at once.
+#![tactic(auto)]
+
 ghost use Rattle.std.specs.Prelude.{◌≡◌, ℕ, ◌+◌, ◌*◌, ◌%◌, ◌^◌, ◌≤◌, ◌<◌, length, get_or, take, drop};
 ghost use Rattle.rules.specs.Bits.{value, total, cell_bits};
 

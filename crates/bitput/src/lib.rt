@@ -1,4 +1,6 @@
 // Cells put into a bit stream in bytes bit by bit, other bits untouched: what the way back (crate bitunfill) does with its last cells.
+#![tactic(auto)]
+
 ghost use Rattle.std.specs.Prelude.{◌≡◌, ℕ, ◌+◌, ◌*◌, ◌/◌, ◌%◌, ◌^◌, ◌≤◌, ◌<◌, length, get_or};
 ghost use Rattle.std.proofs.lemmas.List.Edits.{sets};
 ghost use Rattle.rules.specs.Bits.{digits, total, cell_bits, stream_bits};

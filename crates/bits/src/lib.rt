@@ -1,5 +1,7 @@
 // Numbers as bits, least significant first: what the loops of filling cells from a bit stream in bytes and of the way back (crates bitfill and
 // bitunfill) reckon with. The definitions are in rules/specs/Bits; proofs/BitLaws and proofs/FillLaws have the laws that callers cite.
+#![tactic(auto)]
+
 ghost use Rattle.std.specs.Prelude.{◌≡◌, ℕ, ◌+◌, ◌-◌, ◌*◌, ◌/◌, ◌%◌, ◌^◌, ◌≤◌, ◌<◌, ltb, length, get_or, drop};
 ghost use Rattle.rules.specs.Bits.{value, total, stream_bits};
 ghost use Rattle.rules.specs.Fits.{capacity};

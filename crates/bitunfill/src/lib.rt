@@ -1,6 +1,8 @@
 // The way back: the bits of cells go into a bit stream in bytes, from a bit on; other bits stay. As long as 64 of these bits are left, four
 // cells make one number, which is written as eight bytes at once, without a branch: what is no full byte yet is held and written again with
 // the next four cells. The last cells are put bit by bit.
+#![tactic(auto)]
+
 ghost use Rattle.std.specs.Prelude.{◌≡◌, ℕ, ◌+◌, ◌*◌, ◌%◌, ◌^◌, ◌≤◌, ◌<◌, length, get_or};
 ghost use Rattle.rules.specs.Bits.{total, unfilled_into};
 

@@ -1,5 +1,7 @@
 // Cells as two bytes, high byte first: bytes of whole cells told from others, and cells read; crate bytewrite writes them. specs/ByteSteps says
 // what an entry over such cells answers and leaves.
+#![tactic(auto)]
+
 ghost use Rattle.std.specs.Prelude.{◌≡◌, false, ◌+◌, ◌*◌, ◌≤◌, ◌<◌, length, get_or, take};
 ghost use Rattle.counting.specs.Search.{tabulate};
 ghost use Rattle.counting.specs.Bytes.{Octets};

@@ -1,4 +1,6 @@
 // The step of crate delay over a store of two-byte cells, high byte first: one pass that exchanges, and one move of the whole store by two bytes.
+#![tactic(auto)]
+
 ghost use Rattle.std.specs.Prelude.{◌≡◌, ◌*◌, ◌≤◌, ◌<◌, length};
 ghost use Rattle.rules.specs.Fits.{capacity};
 ghost use Rattle.rules.specs.Places.{emitter_delay, receiver_delay, places_before, oldest, moved};

@@ -1,5 +1,7 @@
 // The emitter over two-byte cells: an emit step and a flush step whose store, data and symbol are lent as bytes. The entries try ground 21
 // first; what they refuse, they leave as it was, and they ask nothing of their caller.
+#![tactic(auto)]
+
 ghost use Rattle.std.specs.Prelude.{◌≡◌, ℕ, ◌*◌, ◌<◌, length, get_or};
 ghost use Rattle.rules.specs.Device.{khz50};
 ghost use Rattle.rules.specs.Fits.{Fits, capacity};

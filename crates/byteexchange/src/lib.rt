@@ -1,4 +1,6 @@
 // The pass of crate exchange over a store of two-byte cells, high byte first.
+#![tactic(auto)]
+
 ghost use Rattle.std.specs.Prelude.{◌≡◌, ◌+◌, ◌*◌, ◌≤◌, ◌<◌, length, get_or, set};
 ghost use Rattle.bytecells.specs.Octets.{cells_of, bytes_of, Whole};
 ghost use Rattle.exchange.specs.Exchange.{end_delay, first_delay, Passes, At};

@@ -1,5 +1,7 @@
 // Filling a data symbol from a bit stream and the way back, over two-byte cells (request 07). The entries try ground 21 first, of the data; a
 // stream is no cell buffer. What they refuse, they leave as it was, and they ask nothing of their caller.
+#![tactic(auto)]
+
 ghost use Rattle.std.specs.Prelude.{◌≡◌, ℕ, ◌+◌, ◌*◌, ◌≤◌, ◌<◌, length, get_or};
 ghost use Rattle.rules.specs.Device.{khz50};
 ghost use Rattle.rules.specs.Fits.{capacity};

@@ -1,4 +1,6 @@
 // The places of a fresh emitter's store over two-byte cells, as flushes has them over cells. Only the bytes of its places are written.
+#![tactic(auto)]
+
 ghost use Rattle.std.specs.Prelude.{◌≡◌, ◌+◌, ◌*◌, ◌≤◌, ◌<◌, length};
 ghost use Rattle.rules.specs.Device.{phases};
 ghost use Rattle.rules.specs.Fits.{capacity};

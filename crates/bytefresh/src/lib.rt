@@ -1,5 +1,7 @@
 // Fresh starts over a store of two-byte cells, as fresh has them over cells. The entries `fresh_emitter` and `fresh_receiver` read the plan
 // bytes anew and ask nothing of their caller; what they refuse, they leave as it was. Only the bytes of the store's places are written.
+#![tactic(auto)]
+
 ghost use Rattle.std.specs.Prelude.{◌≡◌};
 ghost use Rattle.rules.specs.Device.{khz50};
 ghost use Rattle.rules.specs.Steps.{starts};

@@ -1,6 +1,8 @@
 // The pilot lamp and the list of pilots over bytes (document 02, Req 10, as request 01 has it): a symbol of two-byte cells, high byte first, and
 // lent buffers for the lights and for the list. The entries try ground 21 first and ask nothing of their caller; what they refuse, they leave
 // as it was.
+#![tactic(auto)]
+
 ghost use Rattle.std.specs.Prelude.{◌*◌, ◌≤◌, ◌≡◌, length, get_or};
 ghost use Rattle.std.proofs.lemmas.List.Edits.{sets};
 ghost use Rattle.rules.specs.Device.{khz50};

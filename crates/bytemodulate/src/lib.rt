@@ -1,5 +1,7 @@
 // The modulator symbol of a symbol of two-byte cells, high byte first (request 04). The entry `modulate` asks nothing of its caller; what
 // it refuses, it leaves as it was.
+#![tactic(auto)]
+
 ghost use Rattle.std.specs.Prelude.{◌≡◌};
 ghost use Rattle.rules.specs.Device.{khz50};
 ghost use Rattle.modulator.specs.Symbols.{modulates};

@@ -1,6 +1,8 @@
 // The receiver over two-byte cells, high byte first: a receive step whose store, symbol and data buffer are lent as bytes. Only the cells
 // that the step needs are read or written. The entry `receive` reads the plan bytes anew and asks nothing of its caller; what it refuses, it
 // leaves as it was.
+#![tactic(auto)]
+
 ghost use Rattle.std.specs.Prelude.{◌≡◌, false, ◌||◌, [], ◌*◌, ◌≤◌, ◌<◌, length};
 ghost use Rattle.std.proofs.lemmas.List.Edits.{sets};
 ghost use Rattle.counting.specs.Search.{count, is_zero};

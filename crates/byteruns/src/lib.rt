@@ -1,6 +1,8 @@
 // Runs of an emitter and of a receiver over two-byte cells, as a C host makes them, and what is claimed of them: demand 3 and the claims beside
 // it, the same records as of runs over cells (crate runs), of the entries over bytes (specs/ByteEntries). The functions do nothing; their
 // contracts are the claims.
+#![tactic(auto)]
+
 ghost use Rattle.std.specs.Prelude.{ℕ, ◌≡◌, List};
 ghost use Rattle.rules.specs.declared.Verdict.TheVariants.{Accepted};
 ghost use Rattle.rules.specs.Device.{khz50};

@@ -1,4 +1,6 @@
 // Cells written as two bytes, high byte first: a list of them from a cell on, or one into the first cells.
+#![tactic(auto)]
+
 ghost use Rattle.std.specs.Prelude.{◌≡◌, ◌+◌, ◌*◌, ◌/◌, ◌%◌, ◌≤◌, length, replicate};
 ghost use Rattle.std.proofs.lemmas.List.Edits.{sets};
 ghost use Rattle.bytecells.specs.Octets.{bytes_of};

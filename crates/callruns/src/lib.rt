@@ -1,5 +1,7 @@
 // What a C host reads from the calls of crate headend, and demand 3 and the claims beside it of runs of those calls: the same records as of runs over cells
 // (crate runs), of the calls as a host takes them (specs/CallEntries). The functions do nothing; their contracts are the claims.
+#![tactic(auto)]
+
 ghost use Rattle.std.specs.Prelude.{ℕ, ◌≡◌, false, List};
 ghost use Rattle.rules.specs.declared.Device.{Device};
 ghost use Rattle.rules.specs.declared.Verdict.TheVariants.{Accepted};

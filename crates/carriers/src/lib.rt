@@ -1,5 +1,7 @@
 // The subcarriers with a rank, those whose mark is 0, in rising order, and their number. The marks are read in blocks of 8: a block of
 // ranked subcarriers is stored as it comes, a block with none is passed over, and only a mixed one is read mark by mark.
+#![tactic(auto)]
+
 ghost use Rattle.std.specs.Prelude.{◌≡◌, ℕ, ◌+◌, ◌≤◌, ◌<◌, eqb, length, get_or};
 ghost use Rattle.counting.specs.Search.{bit, count, select, is_zero};
 ghost use Rattle.carriers.specs.Listed.{Listed};

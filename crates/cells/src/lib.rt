@@ -1,5 +1,7 @@
 // N_D, the number of data cells of an input symbol at a phase. The entry `data_count` reads the plan bytes anew, changes nothing and asks
 // nothing of its caller.
+#![tactic(auto)]
+
 ghost use Rattle.std.specs.Prelude.{◌≡◌, ◌≤◌, ◌<◌};
 ghost use Rattle.rules.specs.Device.{khz50};
 ghost use Rattle.rules.specs.Plan.{plan_of};

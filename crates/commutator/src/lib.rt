@@ -4,6 +4,8 @@
 // its own part of the store, where in turn q the oldest cell stands at place q and the cell that goes in takes its place; after the symbol the
 // line is rotated by J places, so that the oldest stands first (crate rotatedlines). The code is proved equal to the definition, and its time is linear in the store and
 // the symbol.
+#![tactic(auto)]
+
 ghost use Rattle.std.specs.Prelude.{◌≡◌, ◌+◌, ◌*◌, ◌≤◌, ◌<◌, length, get_or, set};
 ghost use Rattle.rules.specs.Fits.{capacity};
 ghost use Rattle.figure.specs.Figure.{ceiling, line_begins, cell_in, figure_store, figure_cells};

@@ -1,5 +1,7 @@
 // What the programs read from standard input or a file, the lines that they print, and what they tell standard error where either fails. No
 // contract can say what is read or written; those here say how many bytes were read, and which number bytes are.
+#![tactic(auto)]
+
 ghost use Rattle.std.specs.Prelude.{◌≤◌, min, ◌≡◌, length, get_or};
 ghost use Rattle.io.specs.Counts.{IsPrefixLen};
 ghost use Rattle.console.specs.Number.{number, number_at};

@@ -1,4 +1,6 @@
 // The scaled point of a value read from a table of all scaled coordinates (request 04). The table is made once for a modulator symbol.
+#![tactic(auto)]
+
 ghost use Rattle.std.specs.Prelude.{◌≡◌, true, suc, ◌+◌, ◌*◌, ◌/◌, ◌%◌, ◌^◌, ◌<◌, ◌≤◌, eqb, pos, length};
 ghost use Rattle.counting.specs.Search.{bit};
 ghost use Rattle.gray.specs.Gray.{gray};

@@ -1,4 +1,6 @@
 // The bytes of a copy of a plan that also excludes a range (document 02, Req 05): specs/Copy says which. The plan itself is only read.
+#![tactic(auto)]
+
 ghost use Rattle.std.specs.Prelude.{◌+◌, ◌≤◌, ◌≡◌, length, take};
 ghost use Rattle.std.proofs.lemmas.List.Edits.{sets};
 ghost use Rattle.chains.specs.Last.{last_index};

@@ -1,5 +1,7 @@
 // Counting and searching among the numbers below n: definitions and laws that know nothing of plans.
 // The code here is what every crate above shares: the answer of a search, a cell widened, and that bytes are below 256.
+#![tactic(auto)]
+
 ghost use Rattle.std.specs.Prelude.{◌<◌, ◌≡◌};
 ghost use Rattle.counting.specs.Bytes.{Octets};
 

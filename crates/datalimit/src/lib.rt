@@ -1,5 +1,7 @@
 // The limit of data (ground 19): the search for a number that exceeds the limit of its load. It counts, without a branch to leave by, and
 // looks for the number only where there is one. Where all loads are the same, their limit is that of every number.
+#![tactic(auto)]
+
 ghost use Rattle.std.specs.Prelude.{◌≡◌, ◌&&◌, ℕ, ◌≤◌, ◌<◌, ltb, leb, eqb, length, get_or};
 ghost use Rattle.counting.specs.Search.{bit, count, lowest, tabulate, is_zero};
 ghost use Rattle.counting.specs.Answer.{place_of};

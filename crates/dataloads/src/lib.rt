@@ -1,4 +1,6 @@
 // The loads of the data cells of an input symbol, taken from a profile, and ground 19 by them (request 07).
+#![tactic(auto)]
+
 ghost use Rattle.std.specs.Prelude.{◌≡◌, ℕ, ◌*◌, ◌≤◌, ◌<◌, ltb, length, get_or, take};
 ghost use Rattle.counting.specs.Search.{lowest};
 ghost use Rattle.counting.specs.Answer.{place_of};

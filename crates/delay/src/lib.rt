@@ -1,6 +1,8 @@
 // The delay store (document 02, request 03): for each cell one place for each symbol of its delay, in rising p, the oldest first. A step is one pass
 // and one move of memory: the oldest of each cell goes out, and the cell that came in before takes its place; then the whole store goes one place
 // down, and the cell that came in last takes the last place. A cell without a place goes out as it came in.
+#![tactic(auto)]
+
 ghost use Rattle.std.specs.Prelude.{◌≡◌, ◌+◌, ◌≤◌, ◌<◌, length};
 ghost use Rattle.rules.specs.Fits.{capacity};
 ghost use Rattle.rules.specs.Places.{emitter_delay, receiver_delay, places_before, oldest, moved};

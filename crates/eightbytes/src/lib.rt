@@ -1,4 +1,6 @@
 // A number put into a bit stream as eight whole bytes, for the way back (crate bitunfill). The compiler makes one store of the eight.
+#![tactic(auto)]
+
 ghost use Rattle.std.specs.Prelude.{◌≡◌, ◌+◌, ◌*◌, ◌≤◌, length};
 ghost use Rattle.std.proofs.lemmas.List.Edits.{sets};
 ghost use Rattle.rules.specs.Bits.{digits, stream_bits};

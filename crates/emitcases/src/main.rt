@@ -4,6 +4,8 @@
 // Every subcarrier has load 14. A fresh start that is refused prints `refused`, number, place and the checksum.
 // Standard input holds, for each case, the plan's length, the starting phase, the number of steps and which emitter, four bytes each, high
 // byte first; then the plan, and a byte for each step. tests/emits.py says what the bytes stand for and makes stdin and stdout.
+#![tactic(auto)]
+
 mod either;
 mod kinds;
 

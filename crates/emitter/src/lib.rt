@@ -1,5 +1,7 @@
 // The emitter: an emit step and a flush step. The entries `emit` and `flush` read the plan bytes anew and ask nothing of their caller; what
 // they refuse, they leave as it was.
+#![tactic(auto)]
+
 ghost use Rattle.std.specs.Prelude.{◌≡◌};
 ghost use Rattle.rules.specs.Device.{khz50};
 ghost use Rattle.rules.specs.Steps.{leaves, emit_step, flush_step};

@@ -1,5 +1,7 @@
 // A pass over a store of places (document 02, request 03), cell by cell: the oldest of each cell goes out, and the cell that came in before takes its
 // place. Once the whole store goes one place down, each cell that came in stands in the last of its own places (crate delay).
+#![tactic(auto)]
+
 ghost use Rattle.std.specs.Prelude.{◌≡◌, ◌+◌, ◌≤◌, ◌<◌, length, get_or, set};
 ghost use Rattle.rules.specs.Fits.{capacity};
 ghost use Rattle.exchange.specs.Exchange.{end_delay, first_delay, next_delay, Passes, At};

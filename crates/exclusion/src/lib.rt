@@ -2,6 +2,8 @@
 // chain record points at a new last record. The chain of the plan is read once: the tables that grounds 1 to 5 leave go on to the copy,
 // whose walk goes on at its new record. The entries `try_exclusion` and `try_numbers` change nothing and ask nothing of their caller;
 // `try_range` is for the crates above that want the copy too.
+#![tactic(auto)]
+
 ghost use Rattle.std.specs.Prelude.{ℕ, min, ◌≤◌, ◌≡◌, List, length};
 ghost use Rattle.rules.specs.declared.Device.{Device};
 ghost use Rattle.rules.specs.declared.Finding.TheVariants.{Fine};

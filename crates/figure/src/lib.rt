@@ -1,6 +1,8 @@
 // The time interleaver as document 003 draws it, taken literally (document 02, request 09). specs/Figure has the delay lines and the commutator,
 // specs/Steps what the second emitter's entries answer and leave. The functions here are J, the length of the literal store, and the places that
 // the store of either emitter needs (specs/Needs).
+#![tactic(auto)]
+
 ghost use Rattle.std.specs.Prelude.{◌≡◌, ◌≤◌, ◌<◌};
 ghost use Rattle.counting.specs.Search.{pick};
 ghost use Rattle.rules.specs.Fits.{capacity};

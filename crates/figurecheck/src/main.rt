@@ -3,6 +3,8 @@
 // be refused, and after each step the answers and the symbols of both are compared. Prints one line: `same 128 phases ..`, or the first
 // difference, `differs ..`; for a refused plan plancheck's line. Every load is 14. Where the first 65,536 bytes of the plan cannot be read, or
 // the line cannot be written, standard error is told. A longer input than any plan is read on, up to 64 MiB, so that its writer can finish.
+#![tactic(auto)]
+
 ghost use Rattle.std.specs.Prelude.{◌≡◌};
 ghost use Rattle.rules.specs.Device.{khz50};
 ghost use Rattle.rules.specs.Plan.{plan_of};

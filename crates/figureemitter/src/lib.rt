@@ -1,6 +1,8 @@
 // The second emitter, which takes the figure of document 003 literally (document 02, request 09): a fresh start, an emit step and a flush step on
 // the literal store, whose delay lines the commutator goes round cell by cell (crate commutator). The entries read the plan bytes anew and ask
 // nothing of their caller; what they refuse, they leave as it was. All else is shared with the first emitter.
+#![tactic(auto)]
+
 ghost use Rattle.std.specs.Prelude.{◌≡◌};
 ghost use Rattle.rules.specs.Device.{khz50};
 ghost use Rattle.rules.specs.Steps.{starts, leaves};

@@ -2,6 +2,8 @@
 // step. The lines stand side by side, line r with r * J places, J for each symbol of its delay: place i * J + q is that of cell q * M + r, sent i
 // symbols on. So it is a placeholder exactly if the pattern then stands on the subcarrier of the cell, and else filler, as the places of dummies
 // are. Crate figure says what a fresh literal store holds, specs/Placeholders which places become placeholders.
+#![tactic(auto)]
+
 ghost use Rattle.std.specs.Prelude.{◌≡◌, ◌+◌, ◌*◌, ◌≤◌, ◌<◌, length};
 ghost use Rattle.rules.specs.Device.{phases};
 ghost use Rattle.rules.specs.Fits.{capacity};

@@ -1,6 +1,8 @@
 // The second emitter, which takes the figure of document 003 literally, sends what the first sends (document 02, request 09): for every accepted
 // plan, every phase and every list of steps from fresh starts, refused ones included (specs/Same). The function does nothing; its contract
 // is the theorem.
+#![tactic(auto)]
+
 ghost use Rattle.std.specs.Prelude.{ℕ, ◌≡◌, List};
 ghost use Rattle.rules.specs.declared.Verdict.TheVariants.{Accepted};
 ghost use Rattle.rules.specs.Device.{khz50};

@@ -1,5 +1,7 @@
 // Steps of the second emitter that are given numbers, over the first cells of what they are lent, as crate trials has them of the first. With these a
 // program tries literal stores and symbols that are too short.
+#![tactic(auto)]
+
 ghost use Rattle.std.specs.Prelude.{◌≡◌};
 ghost use Rattle.rules.specs.Device.{khz50};
 ghost use Rattle.rules.specs.Plan.{plan_of};

@@ -1,5 +1,7 @@
 // Input symbols from flags: data or filler in the cells whose flag is 0, placeholders in the others. Data goes in by blocks of sixteen cells:
 // a block without a placeholder is copied whole, any other is filled cell by cell.
+#![tactic(auto)]
+
 ghost use Rattle.std.specs.Prelude.{◌≡◌, ◌+◌, ◌≤◌, length, get_or};
 ghost use Rattle.std.proofs.lemmas.List.Edits.{sets};
 ghost use Rattle.counting.specs.Search.{count, tabulate, is_zero};

@@ -5,6 +5,8 @@
 // Standard input holds, for each case, six numbers of four bytes each, high byte first: the plan's length, the starting phase, two numbers
 // for the profile, one for the stream and the number of acts; then the plan, and the acts, nine numbers each. tests/fills.py says what they
 // stand for and makes stdin and stdout.
+#![tactic(auto)]
+
 mod given;
 
 use given::{Act, Head, PROFILE, STREAM, changed};

@@ -1,6 +1,8 @@
 // Filling a data symbol from a bit stream, and the way back (request 07). The entries `fill_symbol` and `unfill_symbol` read the plan and the
 // profile anew and ask nothing of their caller; what they refuse, they leave as it was. `measure` is the part that they share with the
 // entries over two-byte cells.
+#![tactic(auto)]
+
 ghost use Rattle.std.specs.Prelude.{◌≡◌, ℕ, ◌+◌, ◌*◌, ◌≤◌, ◌<◌, length, get_or};
 ghost use Rattle.rules.specs.declared.Finding.TheVariants.{Fine};
 ghost use Rattle.rules.specs.Device.{khz50, phases};

@@ -1,6 +1,8 @@
 // The places of fresh stores: an emitter's, which hold the flushes that would have come before its first step, and places of filler. Place i of
 // an emitter's cell is sent i symbols on, so it is a placeholder exactly if the pattern then stands on the subcarrier of the cell, and else
 // filler. specs/Spotted says what the places are made from, specs/Placeholders which of them are placeholders.
+#![tactic(auto)]
+
 ghost use Rattle.std.specs.Prelude.{◌≡◌, ◌+◌, ◌%◌, ◌≤◌, ◌<◌, length, replicate};
 ghost use Rattle.std.proofs.lemmas.List.Edits.{sets};
 ghost use Rattle.rules.specs.Device.{phases};

@@ -1,4 +1,6 @@
 // Four cells of a row at a time, for the loops that go along a row.
+#![tactic(auto)]
+
 ghost use Rattle.std.specs.Prelude.{◌≡◌, ℕ, ◌+◌, ◌*◌, ◌≤◌, ◌<◌, length, get_or};
 ghost use Rattle.rules.specs.Fits.{capacity};
 ghost use Rattle.walk.specs.Stores.{stores};

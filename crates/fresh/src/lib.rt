@@ -1,5 +1,7 @@
 // Fresh starts: an emitter's store holds the flushes that would have come before its first step, a receiver's is all filler. The entries
 // `fresh_emitter` and `fresh_receiver` read the plan bytes anew and ask nothing of their caller; what they refuse, they leave as it was.
+#![tactic(auto)]
+
 ghost use Rattle.std.specs.Prelude.{◌≡◌};
 ghost use Rattle.rules.specs.Device.{khz50};
 ghost use Rattle.rules.specs.Steps.{starts, start_step};

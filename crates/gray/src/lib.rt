@@ -1,5 +1,7 @@
 // Gray values, both ways (source document 000, 1.2.1, with request 04): whole numbers with a sign, from up to seven bits and back to
 // them; and the negation, sign and absolute value that points are made with, exact at both ends of their type.
+#![tactic(auto)]
+
 ghost use Rattle.std.specs.Prelude.{◌≡◌, ◌^◌, ◌<◌, ◌≤◌, neg_ℤ, nat_abs};
 ghost use Rattle.gray.specs.Gray.{gray, signed};
 ghost use Rattle.gray.specs.Positions.{position, bits_at, is_gray, position_of, bits_of};

@@ -1,5 +1,7 @@
 // Grounds 9 to 15, from the runs of excluded subcarriers and the marks of a plan that passed 1 to 8. The plan's bytes are not
 // read here: they are lent so that the contracts can speak of the plan.
+#![tactic(auto)]
+
 ghost use Rattle.std.specs.Prelude.{◌≡◌, ◌<◌};
 ghost use Rattle.rules.specs.Plan.{plan_of};
 ghost use Rattle.rules.specs.Roles.{ranked_count};

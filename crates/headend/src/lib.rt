@@ -1,6 +1,8 @@
 // The calls for a C host, numbers and buffers of bytes or single-precision numbers only: include/headend.h, docs/C-HOST.md. Each is thin:
 // it tries the length of the answer buffer, calls the proved entry over plan bytes or two-byte cells, and has crates answers and
 // answerbytes lay its answer out in the buffer.
+#![tactic(auto)]
+
 ghost use Rattle.std.specs.Prelude.{◌≡◌};
 ghost use Rattle.rules.specs.Device.{khz50};
 ghost use Rattle.headend.specs.Calls.{says, says_store, says_step, says_fill, says_lamp, says_numbers, judge_call, try_call, role_call, why_call, count_call, start_call, listen_call, emit_call, flush_call, receive_call, fill_call, unfill_call, pilots_call, lamp_call, modulate_call};

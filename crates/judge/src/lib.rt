@@ -1,5 +1,7 @@
 // The judge of plans and what stands on it: the verdict, the role of a subcarrier, and how many are scattered. The entries `judge`,
 // `role` and `scattered_count` read the plan bytes anew, change nothing and ask nothing of their caller.
+#![tactic(auto)]
+
 ghost use Rattle.std.specs.Prelude.{◌≡◌, ◌<◌};
 ghost use Rattle.rules.specs.Device.{khz50, phases};
 ghost use Rattle.rules.specs.Plan.{plan_of};

@@ -1,6 +1,8 @@
 // The pilot lamp (document 02, Req 10): it hears a symbol, keeps its record and answers its lights. The entry `lamp` reads the plan bytes anew
 // and asks nothing of its caller. It changes its record and nothing else, and what it refuses, it leaves as it was. It never refuses on a
 // cell. specs/Claims says what holds over whole lists of symbols.
+#![tactic(auto)]
+
 ghost use Rattle.std.specs.Prelude.{ℕ, ◌≡◌, List, get_or};
 ghost use Rattle.rules.specs.declared.Device.{Device};
 ghost use Rattle.rules.specs.Device.{khz50};

@@ -1,5 +1,7 @@
 // What a C host reads from calls of the pilot lamp (document 02, Req 10): what the lamp over cells answers and leaves, so that the claims of
 // crate lamp hold of runs of the calls (specs/LampRead). The function does nothing; its contract is the claim.
+#![tactic(auto)]
+
 ghost use Rattle.std.specs.Prelude.{ℕ, List};
 ghost use Rattle.rules.specs.declared.Device.{Device};
 ghost use Rattle.rules.specs.Fits.{Fits};

@@ -5,6 +5,8 @@
 // record's, how many cells a symbol has, how many symbols there are, what fills the first, and how many changes follow; then the plan, the
 // record, and for each change the number of a symbol, a subcarrier and the cell that stands there from that symbol on. tests/lamps.py
 // makes stdin and stdout.
+#![tactic(auto)]
+
 ghost use Rattle.io.specs.Counts.{IsPrefixLen};
 
 use lampgrounds::LampAnswer;

@@ -2,6 +2,8 @@
 // prints a line after each: `all lit`, or `dark` and the pilots that are dark, as in `dark 925 1003`. The lamp's record starts fresh. For
 // a refused plan it prints plancheck's line and reads no symbol. Where there is another number of words, where the file or standard input
 // cannot be read, where there is no symbol or the input ends within one, or where a line cannot be written, standard error is told.
+#![tactic(auto)]
+
 use console::Input;
 use pilots::PILOTS;
 use rules::CountAnswer;

@@ -1,5 +1,7 @@
 // The pilot lamp's step (document 02, Req 10), as both forms of it share it, over cells and over two-byte cells: its grounds, and the record and
 // the lights from the cells at the pilots. specs/Steps says what the lamp answers and leaves.
+#![tactic(auto)]
+
 ghost use Rattle.std.specs.Prelude.{suc, ◌≤◌, ◌≡◌, length};
 ghost use Rattle.rules.specs.declared.CountAnswer.TheVariants.{Count};
 ghost use Rattle.rules.specs.Fits.{Fits};

@@ -1,5 +1,7 @@
 // The pilot lamp's record (document 02, Req 10): what ground 28 asks of it, the record after one more symbol, and its lights. The functions
 // are for the entries above, which have read the plan and know its pilots.
+#![tactic(auto)]
+
 ghost use Rattle.std.specs.Prelude.{suc, ◌+◌, ◌≤◌, ◌<◌, ◌≡◌, not, ◌&&◌, ◌||◌, ltb, eqb, length, get_or};
 ghost use Rattle.counting.specs.Search.{bit, pick, lowest, is_none};
 ghost use Rattle.rules.specs.Roles.{continuous_mark};

@@ -1,4 +1,6 @@
 // The line that lampcheck prints after a symbol, as proved text: specs/LampLine.antt says which.
+#![tactic(auto)]
+
 ghost use Rattle.std.specs.Prelude.{◌+◌, ◌≤◌, min, ◌≡◌, [], ◌∷◌, ◌++◌, eqb, length, take};
 ghost use Rattle.counting.specs.Search.{keep};
 ghost use Rattle.io.specs.Counts.{IsPrefixLen};

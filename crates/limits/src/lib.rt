@@ -1,5 +1,7 @@
 // The limits of a band: its width, and how many are excluded in it. Each search over the bands gives the first that breaks a limit (grounds
 // 9 and 12) or keeps one (10). `plan` is lent for the contracts alone.
+#![tactic(auto)]
+
 ghost use Rattle.std.specs.Prelude.{◌≡◌, ◌≤◌, ◌<◌};
 ghost use Rattle.counting.specs.Search.{first};
 ghost use Rattle.counting.specs.Answer.{place_of};

@@ -1,4 +1,6 @@
 // Symbols on the line: the cells of a symbol on their subcarriers, a mark on every other.
+#![tactic(auto)]
+
 ghost use Rattle.std.specs.Prelude.{◌≡◌, ℕ, ◌≤◌, ◌<◌, length, get_or, take};
 ghost use Rattle.rules.specs.Plan.{plan_of};
 ghost use Rattle.rules.specs.Fits.{Fits};

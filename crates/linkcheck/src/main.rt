@@ -4,6 +4,8 @@
 // for a refused load profile. The profile is the file that a word of arguments names, as in `linkcheck my.loads`; without a word every load
 // is 14. Where there are more words, where the file or the first 65,536 bytes of the plan cannot be read, or the line cannot be written,
 // standard error is told. A longer input than any plan is read on, up to 64 MiB, so that its writer can finish.
+#![tactic(auto)]
+
 mod limits;
 mod link;
 mod receives;

@@ -1,4 +1,6 @@
 // The test pass of filling a modulator symbol (request 04): the lowest subcarrier that 22 or 23 refuses, by a table of the limits of all loads.
+#![tactic(auto)]
+
 ghost use Rattle.std.specs.Prelude.{◌≡◌, List, ℕ, ◌<◌, ltb, length, replicate};
 ghost use Rattle.counting.specs.Search.{when, lowest};
 ghost use Rattle.modulator.specs.Symbols.{line_refusal};

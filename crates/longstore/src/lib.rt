@@ -1,6 +1,8 @@
 // The long store, M rows of N_I cells with a row in the states, as document 01 has it ("Cells and interleaving", "State"): the definitions of its
 // steps (specs/), and the theorem that from a fresh start the short store gives the same (02, request 03). No code needs it. The types are those
 // that have a row; fields are spelled as in the definitions. The function does nothing; its contract is the theorem.
+#![tactic(auto)]
+
 ghost use Rattle.std.specs.Prelude.{ℕ, ◌≡◌, List};
 ghost use Rattle.rules.specs.declared.Verdict.TheVariants.{Accepted};
 ghost use Rattle.rules.specs.Device.{khz50};

@@ -1,5 +1,7 @@
 // Grounds 6 to 8 over the marks while they are painted; where none holds, the mark of every subcarrier stands in the lent array.
 // `plan` is there for the contracts: these functions do not read it.
+#![tactic(auto)]
+
 ghost use Rattle.std.specs.Prelude.{◌≤◌, ◌≡◌, [], length};
 ghost use Rattle.counting.specs.Search.{is_zero};
 ghost use Rattle.counting.specs.Answer.{place_of};

@@ -1,5 +1,7 @@
 // The marks painted into a lent array: the excluded subcarriers, then the PLC and the predefined pilots. The further pilots follow in crate
 // markgrounds, with grounds 6 to 8. `plan` is there for the contracts: these functions do not read it.
+#![tactic(auto)]
+
 ghost use Rattle.std.specs.Prelude.{◌≤◌, ◌≡◌, length};
 ghost use Rattle.counting.specs.Runs.{Runs};
 ghost use Rattle.rules.specs.Plan.{plan_of};

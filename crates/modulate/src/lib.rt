@@ -1,4 +1,6 @@
 // Filling a modulator symbol (request 04): one pass tries every subcarrier, and where none is refused, one pass writes the two numbers of each.
+#![tactic(auto)]
+
 ghost use Rattle.std.specs.Prelude.{◌≡◌, true, false, ◌&&◌, ◌+◌, ◌*◌, ◌≤◌, ◌<◌, eqb, length};
 ghost use Rattle.std.proofs.Math.Option.{none};
 ghost use Rattle.counting.specs.Search.{lowest};

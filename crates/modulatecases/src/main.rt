@@ -4,6 +4,8 @@
 // Standard input holds eleven numbers for each case, of four bytes each, high byte first: a seed, from which cells, loads and sign bytes
 // come; how many of each are lent, and how many numbers; and two changes, each a subcarrier, its cell and its load.
 // tests/points.py makes stdin and stdout.
+#![tactic(auto)]
+
 ghost use Rattle.std.specs.Prelude.{◌≤◌};
 
 use modulator::ModulateAnswer;

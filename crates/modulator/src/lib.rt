@@ -1,5 +1,7 @@
 // What the modulator is given (request 04): what stands on the line at a subcarrier, silent, open, a point or a pilot, and the two numbers
 // of it in a modulator symbol (specs/Symbols; docs/MODULATOR.md).
+#![tactic(auto)]
+
 ghost use Rattle.std.specs.Prelude.{◌≡◌, true, ℕ, ◌+◌, ◌*◌, ◌<◌, ◌≤◌, length};
 ghost use Rattle.rules.specs.Loads.{point_load};
 ghost use Rattle.points.specs.Points.{load_listed};

@@ -1,5 +1,7 @@
 // When the scattered pattern stands on a subcarrier (specs/Until): by this a fresh store gets its placeholders (crate flushes), and a
 // subcarrier the one phase at which a scattered pilot stands there (crate why).
+#![tactic(auto)]
+
 ghost use Rattle.std.specs.Prelude.{◌≡◌};
 ghost use Rattle.pattern.specs.Until.{symbols_until};
 

@@ -1,6 +1,8 @@
 // The continuous pilots of a plan, predefined and kind 3 alike, in rising order (document 02, Req 10: the order of the lamp's record). The
 // entry `pilots` reads the plan bytes anew, changes nothing and asks nothing of its caller. The marks are read in blocks of 16, and a block
 // without a pilot is passed over.
+#![tactic(auto)]
+
 ghost use Rattle.std.specs.Prelude.{ℕ, ◌+◌, ◌%◌, ◌≤◌, ◌≡◌, false, List, eqb, length};
 ghost use Rattle.counting.specs.Search.{count};
 ghost use Rattle.rules.specs.declared.Finding.TheVariants.{Fine};

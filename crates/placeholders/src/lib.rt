@@ -1,5 +1,7 @@
 // The flags of the placeholders of an input symbol, and their number. A cell is a placeholder where its subcarrier is, modulo 128, the one of
 // the pattern at the phase at which the cell is sent. That repeats after m cells: the cells are compared in order with a block of whole turns.
+#![tactic(auto)]
+
 ghost use Rattle.std.specs.Prelude.{◌≡◌, ℕ, ◌+◌, ◌%◌, ◌≤◌, ◌<◌, eqb, length, get_or, take};
 ghost use Rattle.std.proofs.lemmas.List.Edits.{sets};
 ghost use Rattle.counting.specs.Search.{bit, count, tabulate};

@@ -1,4 +1,6 @@
 // How many places a store has: p mod m for an emitter's cell p, m - 1 - (p mod m) for a receiver's (document 02, request 03).
+#![tactic(auto)]
+
 ghost use Rattle.std.specs.Prelude.{◌≡◌, ◌≤◌, ◌<◌};
 ghost use Rattle.counting.specs.Search.{sum};
 ghost use Rattle.rules.specs.Fits.{capacity};

@@ -1,4 +1,6 @@
 // Cells placed on the line by the walk of crate `walk`, row after row: number r of the walk goes to the subcarrier of rank r.
+#![tactic(auto)]
+
 ghost use Rattle.std.specs.Prelude.{◌≡◌, List, ℕ, ◌+◌, ◌^◌, ◌≤◌, ◌<◌, length, get_or};
 ghost use Rattle.rules.specs.Fits.{capacity, row_bits_max};
 ghost use Rattle.rules.specs.Frame.{reversed};

@@ -1,6 +1,8 @@
 // Grounds 1 to 5 along the chain of a plan (those of one record are crate recordgrounds'), and the tables that are filled on the way:
 // excluded ranges go into `reach` and `hot` (crate ranges), the numbers of the kind 3 records, in the order of the chain, into
 // `pil`, and their indices into `rec`. The walk starts at record 0, or goes on at a later one with the tables of those before it.
+#![tactic(auto)]
+
 ghost use Rattle.std.specs.Prelude.{◌≡◌, true, false, length, ◌+◌, ◌/◌, ◌≤◌, ◌<◌};
 ghost use Rattle.counting.specs.Search.{bit};
 ghost use Rattle.rules.specs.Fits.{Fits};

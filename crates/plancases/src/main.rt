@@ -2,6 +2,8 @@
 // length as four bytes, high byte first, and then the plan. tests/cases.py makes stdin and stdout from the second model.
 
 // Reads a plan of this length, judges it and prints its line; false where it could not be read whole or its line was not written.
+#![tactic(auto)]
+
 fn judge_case(plan: &mut [u8]) -> bool {
     if !console::fill(b"plancases", plan) {
         return false;

@@ -1,6 +1,8 @@
 // Reads a plan on standard input and prints one line: `ok 425 4` (N_I, and how many subcarriers are scattered at phase 0), or
 // `refused 14 835` (number, place). Where a read of the first 65,536 bytes fails, or the line cannot be written, standard error is told.
 // A longer input than any plan is read on, up to 64 MiB, so that its writer can finish.
+#![tactic(auto)]
+
 use console::Input;
 
 // Prints the line of a plan.

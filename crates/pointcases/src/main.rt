@@ -2,6 +2,8 @@
 // load, 0 to 16 and three that are far above: the load, and the checksums of the points and of the scaled points of the values 0 to 16400,
 // 65536 and 4294967295, of the values of the points whose coordinates are -130 to 130 or an end of their type, and of what stands on the
 // line for the cells 32766 to 32775, 65535, 0 and 1 with either sign bit.
+#![tactic(auto)]
+
 use modulator::{LineAnswer, OnLine};
 use points::PointAnswer;
 use scaling::{RootAnswer, ScaledAnswer, ScaledPoint};

@@ -1,5 +1,7 @@
 // The whole-number points of the modulator (request 04, by source document 000): `point_of` gives the point of a value. The way back is
 // crate values.
+#![tactic(auto)]
+
 ghost use Rattle.std.specs.Prelude.{◌≡◌, true, ◌*◌, ◌^◌, ◌<◌, ◌≤◌, nat_abs};
 ghost use Rattle.gray.specs.Gray.{signed};
 ghost use Rattle.points.specs.Points.{at, cross, point_of, load_listed};

@@ -1,5 +1,7 @@
 // Load profiles: ground 25, the range of the loads, and their limits (request 07). The test for a load that is not listed joins all answers
 // without a branch to leave by, and looks for the load only where there is one.
+#![tactic(auto)]
+
 ghost use Rattle.std.specs.Prelude.{◌≡◌, true, not, ℕ, ◌≤◌, ◌<◌, length, get_or};
 ghost use Rattle.counting.specs.Search.{bit, lowest, tabulate};
 ghost use Rattle.counting.specs.Answer.{place_of};

@@ -1,6 +1,8 @@
 // Ranges noted in a table and swept into runs, in one pass whatever the ranges' number and overlaps.
 // `reach[first]` is one past the farthest end of the ranges that begin at `first`, 0 if none does; `hot` flags blocks of 16.
 // Numbers lie below `size`, at most 4,096.
+#![tactic(auto)]
+
 ghost use Rattle.std.specs.Prelude.{◌≡◌, true, length, ◌+◌, ◌*◌, ◌%◌, ◌≤◌, ◌<◌};
 ghost use Rattle.counting.specs.Runs.{Runs};
 ghost use Rattle.ranges.specs.Reach.{hit, Table, Flags, NotedIf};

@@ -1,5 +1,7 @@
 // N_I, the number of subcarriers with a rank, from the marks, and ground 15. The plan's bytes are not read here: they are lent so that the
 // contracts can speak of the plan.
+#![tactic(auto)]
+
 ghost use Rattle.std.specs.Prelude.{◌≡◌, eqb, ◌+◌, ◌≤◌};
 ghost use Rattle.counting.specs.Search.{bit, count, is_zero};
 ghost use Rattle.rules.specs.Plan.{plan_of};

@@ -1,6 +1,8 @@
 // Why a subcarrier has its role at a phase (document 02, Req 08): the definition of the answer (specs/Reasons), and that what it says is true
 // (specs/Claims). 02 calls it the ground of a role; here that is its reason, since grounds are what refuses. The answer's type is crate
 // rules', the code crate why's.
+#![tactic(auto)]
+
 ghost use Rattle.std.specs.Prelude.{ℕ, List};
 ghost use Rattle.rules.specs.declared.Device.{Device};
 ghost use Rattle.rules.specs.Fits.{Fits};

@@ -4,6 +4,8 @@
 // number, place and the checksum.
 // Standard input holds, for each case, four numbers of four bytes each, high byte first: the plan's length, the starting phase, how
 // many cells the store needs and the number of acts; then the plan, and the acts. tests/receives.py says what the acts are and makes stdin and stdout.
+#![tactic(auto)]
+
 use rules::{EmitterState, ListenAnswer, ReceiveAnswer, ReceiverState, SendAnswer, StartAnswer};
 use trials::{Receiving, Sending};
 

@@ -1,5 +1,7 @@
 // Whether a receive step is admitted: its grounds in order, 1 to 15, 25, 16, 17 and 20, and what the step makes of the plan where none holds. The
 // receivers over cells and over two-byte cells share it. specs/Stages has the grounds by stages, specs/InOrder what is known where none holds.
+#![tactic(auto)]
+
 ghost use Rattle.std.specs.Prelude.{◌≡◌, List, ℕ, ◌≤◌, ◌<◌, length, take};
 ghost use Rattle.rules.specs.declared.CountAnswer.TheVariants.{Count};
 ghost use Rattle.rules.specs.declared.Finding.TheVariants.{Fine};

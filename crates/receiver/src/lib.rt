@@ -1,5 +1,7 @@
 // The receiver: a receive step. The entry `receive` reads the plan bytes anew and asks nothing of its caller; what it refuses, it leaves as
 // it was.
+#![tactic(auto)]
+
 ghost use Rattle.std.specs.Prelude.{◌≡◌, [], ◌≤◌, ◌<◌, length};
 ghost use Rattle.rules.specs.Device.{khz50};
 ghost use Rattle.rules.specs.Fits.{Fits};

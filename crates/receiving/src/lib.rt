@@ -1,5 +1,7 @@
 // What the state of a receiver says: whether it is warming, whether a data buffer is too short, which input symbol is handed out, and the
 // state of the next step. The receivers over cells and over two-byte cells share it.
+#![tactic(auto)]
+
 ghost use Rattle.std.specs.Prelude.{◌≡◌, not, ◌&&◌, ◌+◌, ◌-◌, ◌%◌, ◌≤◌, ◌<◌, ltb};
 ghost use Rattle.counting.specs.Search.{pick};
 ghost use Rattle.rules.specs.Device.{phases};

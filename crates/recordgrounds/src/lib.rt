@@ -1,4 +1,6 @@
 // What is refused of one record of a plan: grounds 2 to 5, with the number of pilots before it.
+#![tactic(auto)]
+
 ghost use Rattle.std.specs.Prelude.{◌≡◌};
 ghost use Rattle.rules.specs.Grounds.{bad_form, bad_next, bad_numbers, record_grounds};
 ghost use Rattle.records.specs.Read.{entry_of, found_at};

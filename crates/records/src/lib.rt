@@ -1,5 +1,7 @@
 // One record of a plan as it is read, and ground 1, which asks for the plan's length alone, so that its records can be read. What is
 // refused of a record is crate recordgrounds', the chain that leads through them crate plan's.
+#![tactic(auto)]
+
 ghost use Rattle.std.specs.Prelude.{◌≡◌, length, ◌+◌, ◌*◌, ◌<◌};
 ghost use Rattle.rules.specs.Plan.{number, entry};
 ghost use Rattle.rules.specs.Grounds.{bad_length};

@@ -1,4 +1,6 @@
 // The line that plancheck prints for a plan, as proved text: specs/PlanLine.antt says which.
+#![tactic(auto)]
+
 ghost use Rattle.std.specs.Prelude.{◌≡◌};
 ghost use Rattle.io.specs.Counts.{IsPrefixLen};
 ghost use Rattle.rules.specs.declared.Verdict.TheVariants.{Accepted};

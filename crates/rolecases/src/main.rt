@@ -3,6 +3,8 @@
 // and 4294967295, how many were excluded, PLC, continuous, scattered, data and refused, and the checksum of all in this order.
 // Standard input holds, for each case, the plan's length and the phase as four bytes each, high byte first, and then the plan.
 // tests/roles.py makes stdin and stdout.
+#![tactic(auto)]
+
 ghost use Rattle.std.specs.Prelude.{◌<◌};
 
 use rules::{Role, RoleAnswer};

@@ -1,5 +1,7 @@
 // The predefined pilots of an L, and the role test: the role of a subcarrier at a phase, from its mark.
 // `plan` is there for the contracts: the role test does not read it.
+#![tactic(auto)]
+
 ghost use Rattle.std.specs.Prelude.{◌≤◌, ◌<◌, ◌≡◌};
 ghost use Rattle.rules.specs.Device.{khz50, phases};
 ghost use Rattle.rules.specs.Plan.{plan_of};

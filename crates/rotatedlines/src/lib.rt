@@ -1,5 +1,7 @@
 // Delay lines rotated once a symbol is through (document 02, request 09): in each line the J cells that came in stand first, where the commutator
 // left them, and go to the end, so that the oldest stands first again. A line is rotated by moves of memory.
+#![tactic(auto)]
+
 ghost use Rattle.std.specs.Prelude.{◌+◌, ◌≤◌, ◌<◌, length, get_or};
 ghost use Rattle.rules.specs.Fits.{capacity};
 ghost use Rattle.figure.specs.Figure.{line_begins};

@@ -1,6 +1,8 @@
 // The walk of crate `walk` as code: rows of cells in the order of reversed bits, any number of rows up to 256, each cell of a row after the
 // one before it, so that no rank is computed and nothing is divided for a cell. Here the subcarriers by cell (`kc`) come from those by rank
 // (`car`); crate `placing` goes the same way, with the same table and the same laws.
+#![tactic(auto)]
+
 ghost use Rattle.std.specs.Prelude.{◌≡◌, List, ℕ, ◌+◌, ◌^◌, ◌≤◌, ◌<◌, length, get_or};
 ghost use Rattle.rules.specs.Fits.{capacity, row_bits_max};
 ghost use Rattle.rules.specs.Frame.{reversed};

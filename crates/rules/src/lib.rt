@@ -1,6 +1,8 @@
 // The rules of document 01 as definitions (specs/), a table of them at a small device (proofs/SmallTable; crate starred has the starred
 // cases), and the types that definitions and code share: a device's sizes and the answers of the entries. Fields are spelled as in the
 // definitions.
+#![tactic(auto)]
+
 ghost use Rattle.std.specs.Prelude.{◌≡◌};
 ghost use Rattle.rules.specs.Device.{khz50};
 

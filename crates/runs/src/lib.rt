@@ -1,5 +1,7 @@
 // Runs of an emitter and of a receiver from a fresh start, and what is claimed of them: demand 3 (specs/Demand3), and the claims beside
 // it (specs/Claims). The two functions do nothing; their contracts are the claims, so that they stand among the proved lines.
+#![tactic(auto)]
+
 ghost use Rattle.std.specs.Prelude.{ℕ, ◌≡◌, List};
 ghost use Rattle.rules.specs.declared.Verdict.TheVariants.{Accepted};
 ghost use Rattle.rules.specs.Device.{khz50};

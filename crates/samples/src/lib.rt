@@ -1,5 +1,7 @@
 // The data that the programs send, worked out by rule: `draw` is the generator of the executed cases, module `inputs` the data of linkcheck's
 // input symbols. Beside them the cell at a place, and M of a plan.
+#![tactic(auto)]
+
 ghost use Rattle.std.specs.Prelude.{◌≡◌, min, length, get_or, set};
 ghost use Rattle.samples.specs.Drawn.{nth, drawn_at, filled};
 ghost use Rattle.samples.specs.Drawn.{next as following};

@@ -1,4 +1,6 @@
 // Scaled points (request 04): whole-number points times the stored factors of source document 000, in single precision.
+#![tactic(auto)]
+
 ghost use Rattle.std.specs.Prelude.{◌≡◌, true, ℕ, ◌<◌, ◌≤◌, nat_abs};
 ghost use Rattle.std.specs.Float.{binary32};
 ghost use Rattle.std.specs.Float.Ieee.{mul, of_int, to_bits};

@@ -1,6 +1,8 @@
 // The opening of a sending step, of either emitter and for every form of its cells: grounds 1 to 15, 25 and 16 to 19, of the second emitter with
 // its literal store 27 after 17, and, where none holds, what the rest of the step works with.
 // specs/Opening says which steps no ground refuses.
+#![tactic(auto)]
+
 ghost use Rattle.std.specs.Prelude.{◌≡◌, List, ℕ, ◌≤◌, length};
 ghost use Rattle.counting.specs.Search.{pick};
 ghost use Rattle.rules.specs.declared.Finding.TheVariants.{Fine};

@@ -1,5 +1,7 @@
 // What a sending step, emit or flush, does besides the store and the symbol on the line: grounds 25, 18 and 19, the input symbol, and the
 // state of the next step. The cells of store, data and symbol may be of any form.
+#![tactic(auto)]
+
 ghost use Rattle.std.specs.Prelude.{◌≡◌, false, List, ℕ, ◌+◌, ◌%◌, ◌≤◌, ◌<◌, length, get_or};
 ghost use Rattle.counting.specs.Search.{pick};
 ghost use Rattle.rules.specs.declared.Finding.TheVariants.{Fine};

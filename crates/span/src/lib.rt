@@ -1,5 +1,7 @@
 // Ground 11: what is excluded between the lowest and the highest active subcarrier, against the span. The plan's bytes are not read here: they
 // are lent so that the contracts can speak of the plan.
+#![tactic(auto)]
+
 ghost use Rattle.std.specs.Prelude.{◌≡◌, get_or, ◌+◌, ◌-◌, ◌≤◌};
 ghost use Rattle.counting.specs.Search.{count};
 ghost use Rattle.rules.specs.Plan.{plan_of};

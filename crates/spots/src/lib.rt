@@ -1,5 +1,7 @@
 // Cells and subcarriers of an accepted plan: the subcarriers by rank (`car`) and by cell (`kc`), the placeholders of an input symbol (`flag`)
 // and N_D.
+#![tactic(auto)]
+
 ghost use Rattle.std.specs.Prelude.{◌≡◌, ℕ, ◌≤◌, ◌<◌, length, get_or};
 ghost use Rattle.counting.specs.Search.{bit};
 ghost use Rattle.rules.specs.Plan.{plan_of};

@@ -1,6 +1,8 @@
 // What fresh starts share over either form of a cell: grounds 1 to 17, of an emitter and of a receiver, each with the places that its store
 // needs, and 27 of the second emitter, whose store is literal; and for an emitter the subcarriers of the cells, from which its places are
 // made. specs/Admit says what is found.
+#![tactic(auto)]
+
 ghost use Rattle.std.specs.Prelude.{◌≡◌, List, ℕ, ◌≤◌, length};
 ghost use Rattle.rules.specs.Device.{phases};
 ghost use Rattle.rules.specs.Fits.{Fits, capacity};

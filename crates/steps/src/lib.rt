@@ -1,5 +1,7 @@
 // What a step of the emitter and one of the receiver share once the plan is accepted: the tests of the numbers and the lent cells, and
 // the phase of the next step. specs/Ready says what is known of an accepted plan.
+#![tactic(auto)]
+
 ghost use Rattle.std.specs.Prelude.{◌≡◌, List, ℕ, ◌+◌, ◌%◌, ◌≤◌, ◌<◌, length};
 ghost use Rattle.rules.specs.Device.{phases};
 ghost use Rattle.rules.specs.Plan.{plan_of};

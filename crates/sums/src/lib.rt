@@ -1,5 +1,7 @@
 // The checksum of the executed cases: with a number more, with cells or singles more, and with the numbers of each answer of an entry more.
 // tests/ works out the same with the second model.
+#![tactic(auto)]
+
 ghost use Rattle.std.specs.Prelude.{◌≡◌, [], ◌∷◌, take};
 ghost use Rattle.std.specs.Float.{binary32};
 ghost use Rattle.std.specs.Float.Ieee.{to_bits};

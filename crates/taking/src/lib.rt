@@ -1,5 +1,7 @@
 // The data of an input symbol taken out of it again: the cells whose flag is 0, in rising order. It is taken by blocks of sixteen cells: a
 // block without a placeholder is copied whole, any other is taken cell by cell.
+#![tactic(auto)]
+
 ghost use Rattle.std.specs.Prelude.{◌≡◌, List, ℕ, ◌+◌, ◌≤◌, length, take};
 ghost use Rattle.std.proofs.lemmas.List.Edits.{sets};
 ghost use Rattle.counting.specs.Search.{count, is_zero};

@@ -1,4 +1,6 @@
 // Lines as proved text: what a line says is a definition of specs/Text.antt.
+#![tactic(auto)]
+
 ghost use Rattle.std.specs.Prelude.{◌≤◌, ◌≡◌, [], ◌∷◌, length};
 ghost use Rattle.io.specs.Counts.{IsPrefixLen};
 ghost use Rattle.text.specs.Text.{decimal, number_line, line_of, ok_line, refused_line};

@@ -1,5 +1,7 @@
 // Steps that are given numbers: the entries of both ends of the line over the first cells of what they are lent. With these a program tries
 // stores, symbols and data buffers that are too short.
+#![tactic(auto)]
+
 ghost use Rattle.std.specs.Prelude.{◌≡◌};
 ghost use Rattle.io.specs.Counts.{IsPrefixLen};
 ghost use Rattle.rules.specs.Device.{khz50};

@@ -3,6 +3,8 @@
 // makes stdin and stdout from the second model.
 
 // The number of two bytes, high byte first.
+#![tactic(auto)]
+
 fn number_of(high: u8, low: u8) -> u16 {
     (high as u16) * 256 + low as u16
 }

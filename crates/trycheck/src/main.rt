@@ -1,6 +1,8 @@
 // Reads a plan on standard input, tries one more excluded range on it, and prints one line as plancheck would for the plan with it. The
 // range is two words of arguments, as in `trycheck 850 853`; where they are no range, standard error is told what is expected, and nothing
 // is read or printed. Reading and writing go as in plancheck.
+#![tactic(auto)]
+
 use console::Input;
 use words::Word;
 

@@ -1,4 +1,6 @@
 // The line that trycheck prints for a plan and a range, as proved text: specs/TryLine.antt says which.
+#![tactic(auto)]
+
 ghost use Rattle.std.specs.Prelude.{◌≡◌};
 ghost use Rattle.io.specs.Counts.{IsPrefixLen};
 ghost use Rattle.text.specs.Bytes.{written};

@@ -1,4 +1,6 @@
 // The way back from a whole-number point of the modulator (request 04): `value_of` gives the one value that makes it.
+#![tactic(auto)]
+
 ghost use Rattle.std.specs.Prelude.{◌≡◌, true, ℕ, ◌+◌, ◌*◌, ◌^◌, ◌<◌, ◌≤◌, nat_abs};
 ghost use Rattle.gray.specs.Positions.{bits_of};
 ghost use Rattle.points.specs.Points.{at, load_listed};

@@ -1,5 +1,7 @@
 // The verdict on a plan and the marks of an accepted one, for any device that fits. `study` and `study_from` are for the crates above: they
 // ask for the array that they fill with marks.
+#![tactic(auto)]
+
 ghost use Rattle.std.specs.Prelude.{◌≡◌, false, ◌/◌, length};
 ghost use Rattle.rules.specs.Grounds.{bad_length, grounds1to5, verdict};
 ghost use Rattle.rules.specs.declared.Finding.TheVariants.{Fine};

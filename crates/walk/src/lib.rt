@@ -1,5 +1,7 @@
 // The walk from cell to cell, row after row in the order of reversed bits (document 02, Req 06), for any number of rows and of cells and any
 // turn of the full columns: laws, and symbols in its order. The function does nothing; its contract is the claim.
+#![tactic(auto)]
+
 ghost use Rattle.std.specs.Prelude.{ℕ, ◌^◌, ◌≤◌, List};
 ghost use Rattle.rules.specs.declared.Device.{Device};
 ghost use Rattle.walk.specs.Walk.{Stays, turned_key, next_cell, walked};

@@ -1,6 +1,8 @@
 // What a subcarrier is doing, and why (document 02, Req 08): its role at a phase, and the record, the distance or the phase that is the
 // reason. Crate reasons has the definition of the answer, and the claim that it is true. The entry `why` reads the plan bytes anew, changes
 // nothing and asks nothing of its caller.
+#![tactic(auto)]
+
 ghost use Rattle.std.specs.Prelude.{◌+◌, ◌-◌, ◌≤◌, ◌<◌, ◌≡◌, true, false};
 ghost use Rattle.rules.specs.declared.Finding.TheVariants.{Fine};
 ghost use Rattle.rules.specs.Device.{khz50};

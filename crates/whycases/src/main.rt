@@ -4,6 +4,8 @@
 
 // Reads a plan of this length and prints the line of a subcarrier at a phase; false where it could not be read whole or its line was not
 // written.
+#![tactic(auto)]
+
 fn why_case(plan: &mut [u8], subcarrier: u32, phase: u32) -> bool {
     if !console::fill(b"whycases", plan) {
         return false;

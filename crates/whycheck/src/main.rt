@@ -2,6 +2,8 @@
 // plan prints as in plancheck. The subcarrier and the phase are those set below, or two words of arguments, as in `whycheck 948 0`; where
 // the words are no two numbers, standard error is told what is expected, and nothing is read or printed. Reading and writing go as in
 // plancheck.
+#![tactic(auto)]
+
 use console::Input;
 use words::Word;
 

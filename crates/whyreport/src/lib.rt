@@ -1,4 +1,6 @@
 // The line that whycheck prints for a plan, a subcarrier and a phase, as proved text: specs/WhyLine.antt says which.
+#![tactic(auto)]
+
 ghost use Rattle.std.specs.Prelude.{◌≡◌};
 ghost use Rattle.io.specs.Counts.{IsPrefixLen};
 ghost use Rattle.text.specs.Bytes.{written};

@@ -1,5 +1,7 @@
 // The windows of a band: the lowest that has too many excluded (grounds 13 and 14). A window lies wholly inside one band. `plan` is lent for
 // the contracts alone.
+#![tactic(auto)]
+
 ghost use Rattle.std.specs.Prelude.{◌≡◌, suc, max, ◌-◌, ◌≤◌, ◌<◌};
 ghost use Rattle.counting.specs.Search.{first};
 ghost use Rattle.counting.specs.Runs.{Singles};

@@ -1,5 +1,7 @@
 // Numbers given to a program as words of its arguments: what a word says is a definition of specs/Word.antt. A word may be of any length
 // and may begin with zeros; a word that is no number up to `most` is malformed, whatever is wrong with it.
+#![tactic(auto)]
+
 ghost use Rattle.std.specs.Prelude.{ℕ, ◌+◌, ◌-◌, ◌*◌, ◌≤◌, ◌≡◌};
 ghost use Rattle.text.specs.Text.{decimal};
 ghost use Rattle.words.specs.declared.Word.TheVariants.{Number};
