@@ -63,6 +63,7 @@ sum_cut h (suc n) a l =
     (λ c. rw (le-ltb n a c) (omega (arith, sum_cut h n a c)))
     (λ c.
     let e : a ≡ suc n = omega arith in
-    rw e
-    (rw (lt-ltb n (suc n) (omega arith))
-    (omega (arith, sum_cong (λ i. bit (ltb i (suc n)) * h i) h n (λ i k. rw (lt-ltb i (suc n) (omega arith)) (one-mul (h i)))))))
+    let f : sum (λ i. bit (ltb i a) * h i) n ≡ sum h n =
+    sum_cong (λ i. bit (ltb i a) * h i) h n (λ i k. rw (lt-ltb i a (omega arith)) (one-mul (h i)))
+    in
+    rw (lt-ltb n a (omega arith)) (rw e (omega (arith, f))))
