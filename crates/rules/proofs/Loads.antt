@@ -1,5 +1,5 @@
 -- Laws of load profiles: what ground 25 leaves, and the limits of loads. Assumes nothing.
-use Prim.Native.Nat.{ℕ, zero, suc, ◌-◌, ◌^◌, ◌≤◌, ◌<◌}
+use Prim.Native.Nat.{ℕ, zero, suc, ◌^◌, ◌≤◌, ◌<◌}
 use mathlib.Core.Path.{◌≡◌, refl, sym}
 use mathlib.Core.Bool.{Bool, true, not}
 use mathlib.Core.List.{List}
@@ -15,9 +15,9 @@ use Rattle.counting.specs.Search.{when, lowest}
 use Rattle.counting.proofs.Bools.{conflict, and_false}
 use Rattle.counting.proofs.Laws.{lowest_none, none_lowest}
 use Rattle.rules.specs.declared.Finding.TheVariants.{Fine, Ground}
-use Rattle.rules.specs.Grounds.{◌else◌, ground?}
+use Rattle.rules.specs.Grounds.{ground?}
 use Rattle.rules.specs.Frame.{top_data}
-use Rattle.rules.specs.Loads.{profile_load, ground25, point_load, load_limit, limit_at}
+use Rattle.rules.specs.Loads.{profile_load, ground25, point_load, load_limit}
 use Rattle.rules.proofs.Findings.{both_fine, when_fine, no_place}
 
 -- the load of subcarrier k is not listed
