@@ -10,8 +10,7 @@ use borrow.Author.Tests.{ltb-true, ltb-false, leb-false, eqb-true, eq-eqb, ne_eq
 use Rattle.counting.specs.Search.{bit, when}
 use Rattle.counting.proofs.Bools.{neither}
 use Rattle.rules.specs.declared.Device.{Device}
-use Rattle.rules.specs.declared.Finding.{Finding}
-use Rattle.rules.specs.declared.Finding.TheVariants.{Fine, Ground}
+use Rattle.rules.specs.declared.Finding.TheVariants.{Fine}
 use Rattle.rules.specs.Plan.{Entry, leads, is_plc, is_range, is_pilot}
 use Rattle.rules.specs.Grounds.{◌else◌, ground?, bad_length, bad_form, bad_next, bad_numbers, pilots_max, record_grounds}
 use Rattle.rules.proofs.Findings.{not_fine}
