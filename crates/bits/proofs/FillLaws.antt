@@ -9,7 +9,6 @@ use native.Mathlib.Omega.{arith}
 use lib.Pow.{pow_pos}
 use lib.ListN.{length, get_or, take, drop, set, replicate, length-append, length-drop, length-replicate, get_or-replicate, take-append-drop}
 use lib.Seq.{sets, sets-eq, length-sets, ext_get_or, length-take-le, take-add, take-length, drop-drop, take_at, drop_at}
-use Rattle.counting.specs.Search.{bit}
 use Rattle.counting.proofs.Lists.{get_d_sets_before, get_or-sets_after}
 use Rattle.rules.specs.Bits.{digits, value, total, cell_bits, cells_from, stream_bits, bytes_from, bits_between, with_bits, filled_from, unfilled_into}
 use Rattle.counting.specs.Bytes.{Octets}

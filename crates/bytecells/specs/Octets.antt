@@ -1,5 +1,5 @@
 -- Cells as bytes: a cell is two bytes, high byte first (request 01). Assumes nothing.
-use Rattle.std.specs.Prelude.{ℕ, ◌+◌, ◌*◌, ◌/◌, ◌%◌, ◌<◌, ◌≡◌, Bool, List, [], ◌∷◌, eqb, length, get_or}
+use Rattle.std.specs.Prelude.{ℕ, ◌+◌, ◌*◌, ◌/◌, ◌%◌, ◌≡◌, Bool, List, [], ◌∷◌, eqb, length}
 
 -- the cells of a list of bytes, two bytes each; the last byte of an odd number is no cell
 unfoldable pub cells_of : List ℕ → List ℕ
