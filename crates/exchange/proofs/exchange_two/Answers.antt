@@ -1,0 +1,6 @@
+-- `exchange::exchange_two` meets its contract. Assumes nothing.
+use mathlib.Core.Path.{refl}
+use Rattle.exchange.proofs.exchange_two.Goals as goal
+
+pub returns : goal.returns
+returns c = (refl, (refl, refl))
