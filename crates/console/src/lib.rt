@@ -8,7 +8,7 @@ ghost use Rattle.console.specs.Number.{number, number_at};
 ghost use Rattle.console.specs.Reading.{Holds, HoldsFrom};
 
 // What reading gave: so many bytes, fewer than there was room for only where the input ended, or nothing, as a read failed.
-#[derive(Drop)]
+#[derive(Clone, Copy)]
 pub enum Input {
     Bytes(usize),
     Failed,

@@ -14,7 +14,7 @@ use rules::{EmitterState, SendAnswer, StartAnswer};
 
 // A run: whether it is the second emitter's, the state for its next step, the generator of data, the checksum, and how many steps were sent
 // and refused.
-#[derive(Drop)]
+#[derive(Clone, Copy)]
 struct Run {
     second: bool,
     state: EmitterState,

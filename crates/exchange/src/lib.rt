@@ -7,7 +7,7 @@ ghost use Rattle.rules.specs.Fits.{capacity};
 ghost use Rattle.exchange.specs.Exchange.{end_delay, first_delay, next_delay, Passes, At};
 
 // How far a pass has come: to cell p, which has the delay d and whose places begin at `at`; and the cell that came in last.
-#[derive(Drop)]
+#[derive(Clone, Copy)]
 pub struct Reached {
     pub p: usize,
     pub d: usize,

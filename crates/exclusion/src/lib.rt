@@ -22,7 +22,7 @@ use plan::Chain;
 use rules::{Device, Verdict};
 
 // The verdict of a trial, and the length of the copy.
-#[derive(Drop)]
+#[derive(Clone, Copy)]
 pub struct Trial {
     pub verdict: Verdict,
     pub length: usize,

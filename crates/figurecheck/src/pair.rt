@@ -17,7 +17,7 @@ const NO_PHASE: u32 = 116;
 
 // The pair: M, and how many cells the store of each needs; the starting phase, the number of the next symbol, the phase that both have come
 // to, and whether all was the same so far; then the numbers of the line.
-#[derive(Drop)]
+#[derive(Clone, Copy)]
 pub(crate) struct Pair {
     pub depth: u32,
     pub first_need: usize,
@@ -32,7 +32,7 @@ pub(crate) struct Pair {
 }
 
 // What an emitter answered: the code, the place of a refusal, 0 of another answer, and the phase that is handed back, 0 of a refused start.
-#[derive(Drop)]
+#[derive(Clone, Copy)]
 pub(crate) struct Answer {
     pub code: u32,
     pub place: u32,

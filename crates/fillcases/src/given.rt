@@ -6,7 +6,7 @@ pub(crate) const PROFILE: usize = 4097;
 pub(crate) const STREAM: usize = 8192;
 
 // What a case is given beside its plan: the starting phase, the numbers that its profile and its stream are made from, and how many acts it has.
-#[derive(Drop)]
+#[derive(Clone, Copy)]
 pub(crate) struct Head {
     pub phase: u32,
     pub step: u32,
@@ -17,7 +17,7 @@ pub(crate) struct Head {
 
 // An act, false in `read` where it could not be read whole: what it does, and what it is given. The changes of the profile and of cells are
 // each a place in the upper two bytes and what stands there in the lower two.
-#[derive(Drop)]
+#[derive(Clone, Copy)]
 pub(crate) struct Act {
     pub read: bool,
     pub kind: u32,

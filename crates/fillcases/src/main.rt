@@ -26,7 +26,7 @@ const BEFORE: u16 = 43981;
 const BACK: u8 = 165;
 
 // A run: whether all its acts could be read, both states, the checksum, how many acts were accepted and refused, and the bits.
-#[derive(Drop)]
+#[derive(Clone, Copy)]
 struct Run {
     read: bool,
     emitter: EmitterState,

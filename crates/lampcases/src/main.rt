@@ -23,7 +23,7 @@ const RECORD: usize = 256;
 const CHANGES: usize = 24576;
 
 // A case: how many cells a symbol has, how many symbols there are, and how many changes.
-#[derive(Drop)]
+#[derive(Clone, Copy)]
 struct Case {
     cells: usize,
     symbols: u32,
@@ -31,7 +31,7 @@ struct Case {
 }
 
 // A case as it runs: the last answer, how many lights of it are lit, and the checksum.
-#[derive(Drop)]
+#[derive(Clone, Copy)]
 struct Run {
     answer: CountAnswer,
     lit: u32,

@@ -14,7 +14,7 @@ use rules::{CountAnswer, Device};
 
 // The answer of the lamp: the number of pilots and the lights in their order, 1 lit, 0 dark, 0 past the last pilot; or refused, and zeros,
 // which say nothing of the pilots: lights count only where nothing refuses.
-#[derive(Drop)]
+#[derive(Clone, Copy)]
 pub struct LampAnswer {
     pub answer: CountAnswer,
     pub lights: [u8; PILOTS],

@@ -14,7 +14,7 @@ use pilots::PILOTS;
 const PLACES: usize = 2048;
 
 // A line: the first len bytes of text.
-#[derive(Drop)]
+#[derive(Clone, Copy)]
 pub struct LampLine {
     pub text: [u8; PLACES],
     pub len: usize,

@@ -16,7 +16,7 @@ use counting::{Found, wide};
 use rules::Device;
 
 // A band, and its part of the list x of the individually excluded: from `from` to `to` - 1.
-#[derive(Drop)]
+#[derive(Clone, Copy)]
 pub struct Band {
     pub low: usize,
     pub high: usize,

@@ -17,7 +17,7 @@ pub(crate) const RIGHT: u32 = 8;
 
 // The link: M, and how many cells the store of each end needs; the starting phase, the number of the next symbol, both states, and whether all was right so far; then the
 // numbers of the line.
-#[derive(Drop)]
+#[derive(Clone, Copy)]
 pub(crate) struct Link {
     pub depth: u32,
     pub emitter_need: usize,

@@ -15,7 +15,7 @@ const OTHER_COUNT: u32 = 2;
 
 // What is due at a symbol: the code of the right answer, the number of the input symbol that comes out (while warming that of the symbol
 // itself), and how many data cells it has.
-#[derive(Drop)]
+#[derive(Clone, Copy)]
 pub(crate) struct Due {
     pub code: u32,
     pub input: u32,

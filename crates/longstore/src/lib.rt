@@ -10,28 +10,28 @@ ghost use Rattle.rules.specs.Grounds.{verdict};
 ghost use Rattle.longstore.specs.Same.{SameAsLong};
 
 // The state of an emitter: phase and row of its next step.
-#[derive(Drop)]
+#[derive(Clone, Copy)]
 pub struct EmitterState {
     pub phase: u32,
     pub row: u32,
 }
 
 // The answer of a fresh start: the state, or refused with number and place.
-#[derive(Drop)]
+#[derive(Clone, Copy)]
 pub enum StartAnswer {
     Started(EmitterState),
     Refused(u32, u32),
 }
 
 // The answer of an emit or flush step: sent with the next state, or refused with number, place and the state as it was given.
-#[derive(Drop)]
+#[derive(Clone, Copy)]
 pub enum SendAnswer {
     Sent(EmitterState),
     Refused(u32, u32, EmitterState),
 }
 
 // The state of a receiver: phase and row of its next step, and how many symbols it has heard, up to M - 1.
-#[derive(Drop)]
+#[derive(Clone, Copy)]
 pub struct ReceiverState {
     pub phase: u32,
     pub row: u32,
@@ -39,7 +39,7 @@ pub struct ReceiverState {
 }
 
 // The answer of a receiver's fresh start: the state, or refused with number and place.
-#[derive(Drop)]
+#[derive(Clone, Copy)]
 pub enum ListenAnswer {
     Started(ReceiverState),
     Refused(u32, u32),
@@ -47,7 +47,7 @@ pub enum ListenAnswer {
 
 // The answer of a receive step: warming with the next state, data with the next state and the count, or refused with number, place
 // and the state as it was given.
-#[derive(Drop)]
+#[derive(Clone, Copy)]
 pub enum ReceiveAnswer {
     Warming(ReceiverState),
     Data(ReceiverState, u32),

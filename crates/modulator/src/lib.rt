@@ -14,7 +14,7 @@ use points::load_listed;
 use scaling::{ScaledPoint, scaled_at};
 
 // What stands on the line at a subcarrier.
-#[derive(Drop)]
+#[derive(Clone, Copy)]
 pub enum OnLine {
     Silent,
     // left open for the PLC
@@ -25,14 +25,14 @@ pub enum OnLine {
 }
 
 // The answer to what stands on the line, or refused with number and place.
-#[derive(Drop)]
+#[derive(Clone, Copy)]
 pub enum LineAnswer {
     Is(OnLine),
     Refused(u32, u32),
 }
 
 // The answer of filling a modulator symbol: done, or refused with number and place, and the subcarrier.
-#[derive(Drop)]
+#[derive(Clone, Copy)]
 pub enum ModulateAnswer {
     Modulated,
     Refused(u32, u32, u32),

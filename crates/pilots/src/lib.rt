@@ -28,7 +28,7 @@ pub const CONTINUOUS: u16 = 0x8003;
 const BLOCK: usize = 16;
 
 // The answer of `pilots`: their number and the pilots in rising order, 0 past the last; or refused, and zeros.
-#[derive(Drop)]
+#[derive(Clone, Copy)]
 pub struct PilotAnswer {
     pub answer: CountAnswer,
     pub list: [u16; PILOTS],

@@ -19,7 +19,7 @@ use records::{Record, bad_length, record_at};
 use rules::Device;
 
 // A good chain with so many pilots and the index of its last record, or the number and place of the first ground.
-#[derive(Drop)]
+#[derive(Clone, Copy)]
 pub enum Chain {
     Good(usize, usize),
     Bad(u32, u32),

@@ -12,14 +12,14 @@ ghost use Rattle.points.specs.Squares.{SquareClaims};
 use gray::{gray_value, magnitude, power, with_sign};
 
 // A whole-number point.
-#[derive(Drop)]
+#[derive(Clone, Copy)]
 pub struct Point {
     pub x: i32,
     pub y: i32,
 }
 
 // The answer to which point: the point, or refused with number and place.
-#[derive(Drop)]
+#[derive(Clone, Copy)]
 pub enum PointAnswer {
     At(Point),
     Refused(u32, u32),

@@ -75,7 +75,7 @@ pub fn profile_ground(d: Device, profile: &[u8]) -> Finding
 }
 
 // The loads of a profile lie in low to high.
-#[derive(Drop)]
+#[derive(Clone, Copy)]
 pub struct Range {
     pub low: u8,
     pub high: u8,

@@ -34,7 +34,7 @@ pub fn note_if(
 }
 
 // How many runs are written, and the one that may still grow: s to e - 1.
-#[derive(Drop)]
+#[derive(Clone, Copy)]
 struct Open {
     n: usize,
     s: usize,

@@ -24,7 +24,7 @@ const LOAD: u8 = 14;
 
 // A run: whether all its acts could be read, both states, the generator of data, the checksum, and how many receives answered warming, data
 // and a refusal.
-#[derive(Drop)]
+#[derive(Clone, Copy)]
 struct Run {
     read: bool,
     emitter: EmitterState,
@@ -38,7 +38,7 @@ struct Run {
 
 // An act, false in `read` where it could not be read whole. What a receive is given: numbers added to those of the state, how many cells of
 // store, line and data buffer, and two changes of the line, each a place in its upper two bytes and a cell in the lower two.
-#[derive(Drop)]
+#[derive(Clone, Copy)]
 struct Act {
     read: bool,
     act: u8,

@@ -22,7 +22,7 @@ use rules::{CountAnswer, Device, Finding, ReceiverState, Verdict};
 
 // The answer to a receive step before it touches what it is lent: refused with number and place, or admitted with the depth, N_I and the
 // number of data cells to hand out.
-#[derive(Drop)]
+#[derive(Clone, Copy)]
 pub enum Admission {
     Refused(u32, u32),
     Admitted(usize, usize, u32),

@@ -8,7 +8,7 @@ ghost use Rattle.rules.specs.Grounds.{bad_length};
 ghost use Rattle.records.specs.Read.{entry_of, Narrow};
 
 // One record as it is read, with its index.
-#[derive(Drop)]
+#[derive(Clone, Copy)]
 pub struct Record {
     pub index: usize,
     pub kind: usize,

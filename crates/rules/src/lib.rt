@@ -7,7 +7,7 @@ ghost use Rattle.std.specs.Prelude.{◌≡◌};
 ghost use Rattle.rules.specs.Device.{khz50};
 
 // The sizes in which devices differ.
-#[derive(Drop)]
+#[derive(Clone, Copy)]
 pub struct Device {
     // subcarriers are numbered from 0
     pub subcarriers: usize,
@@ -41,20 +41,20 @@ pub struct Device {
 }
 
 // What a look for grounds finds: nothing, or the number and place of one.
-#[derive(Drop)]
+#[derive(Clone, Copy)]
 pub enum Finding {
     Fine,
     Ground(u32, u32),
 }
 
 // The answer of the judge: accepted with N_I, or refused with number and place.
-#[derive(Drop)]
+#[derive(Clone, Copy)]
 pub enum Verdict {
     Accepted(u32),
     Refused(u32, u32),
 }
 
-#[derive(Drop)]
+#[derive(Clone, Copy)]
 pub enum Role {
     Excluded,
     Plc,
@@ -64,14 +64,14 @@ pub enum Role {
 }
 
 // The answer to what a subcarrier is at a phase: its role, or refused with number and place.
-#[derive(Drop)]
+#[derive(Clone, Copy)]
 pub enum RoleAnswer {
     Is(Role),
     Refused(u32, u32),
 }
 
 // The answer to what a subcarrier is doing at a phase, and why: its role with the reason, or refused with number and place.
-#[derive(Drop)]
+#[derive(Clone, Copy)]
 pub enum WhyAnswer {
     // excluded, by this record, the first such on the chain
     ExcludedBy(u32),
@@ -91,41 +91,41 @@ pub enum WhyAnswer {
 }
 
 // The answer to how many: a count, or refused with number and place.
-#[derive(Drop)]
+#[derive(Clone, Copy)]
 pub enum CountAnswer {
     Count(u32),
     Refused(u32, u32),
 }
 
 // The state of an emitter: the phase of its next step.
-#[derive(Drop)]
+#[derive(Clone, Copy)]
 pub struct EmitterState {
     pub phase: u32,
 }
 
 // The answer of a fresh start: the state, or refused with number and place.
-#[derive(Drop)]
+#[derive(Clone, Copy)]
 pub enum StartAnswer {
     Started(EmitterState),
     Refused(u32, u32),
 }
 
 // The answer of an emit or flush step: sent with the next state, or refused with number, place and the state as it was given.
-#[derive(Drop)]
+#[derive(Clone, Copy)]
 pub enum SendAnswer {
     Sent(EmitterState),
     Refused(u32, u32, EmitterState),
 }
 
 // The state of a receiver: the phase of its next step, and how many symbols it has heard, up to M - 1.
-#[derive(Drop)]
+#[derive(Clone, Copy)]
 pub struct ReceiverState {
     pub phase: u32,
     pub heard: u32,
 }
 
 // The answer of a receiver's fresh start: the state, or refused with number and place.
-#[derive(Drop)]
+#[derive(Clone, Copy)]
 pub enum ListenAnswer {
     Started(ReceiverState),
     Refused(u32, u32),
@@ -133,7 +133,7 @@ pub enum ListenAnswer {
 
 // The answer of a receive step: warming with the next state, data with the next state and the count, or refused with number, place
 // and the state as it was given.
-#[derive(Drop)]
+#[derive(Clone, Copy)]
 pub enum ReceiveAnswer {
     Warming(ReceiverState),
     Data(ReceiverState, u32),

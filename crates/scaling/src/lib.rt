@@ -36,21 +36,21 @@ const FACTORS: [f32; 14] = [
 ];
 
 // A scaled point.
-#[derive(Drop)]
+#[derive(Clone, Copy)]
 pub struct ScaledPoint {
     pub x: f32,
     pub y: f32,
 }
 
 // The answer to which number stands under the root of a load's factor.
-#[derive(Drop)]
+#[derive(Clone, Copy)]
 pub enum RootAnswer {
     Root(u32),
     Refused(u32, u32),
 }
 
 // The answer to which scaled point: the point, or refused with number and place.
-#[derive(Drop)]
+#[derive(Clone, Copy)]
 pub enum ScaledAnswer {
     At(ScaledPoint),
     Refused(u32, u32),

@@ -7,7 +7,7 @@ ghost use Rattle.text.specs.Text.{decimal, number_line, line_of, ok_line, refuse
 ghost use Rattle.text.specs.Bytes.{written, words_max, Room, Longer};
 
 // A line: the first len bytes of text.
-#[derive(Drop)]
+#[derive(Clone, Copy)]
 pub struct Line {
     pub text: [u8; 32],
     pub len: usize,

@@ -19,7 +19,7 @@ use rules::{
 };
 
 // What a send is given: whether it is a flush, the state, and how many cells of data, store and symbol.
-#[derive(Drop)]
+#[derive(Clone, Copy)]
 pub struct Sending {
     pub flush: bool,
     pub phase: u32,
@@ -29,7 +29,7 @@ pub struct Sending {
 }
 
 // What a receive is given: the state, and how many cells of store, symbol and data buffer.
-#[derive(Drop)]
+#[derive(Clone, Copy)]
 pub struct Receiving {
     pub phase: u32,
     pub heard: u32,

@@ -12,7 +12,7 @@ use gray::{gray_bits, is_gray, magnitude, power};
 use points::{Point, load_listed, signed_point};
 
 // The answer to which value: the value, or refused with number and place.
-#[derive(Drop)]
+#[derive(Clone, Copy)]
 pub enum ValueAnswer {
     Value(u32),
     Refused(u32, u32),

@@ -18,7 +18,7 @@ use records::Record;
 use rules::{Device, Role, RoleAnswer, WhyAnswer};
 
 // What a record may do to a subcarrier.
-#[derive(Drop)]
+#[derive(Clone, Copy)]
 enum Effect {
     Excludes,
     MakesPilot,

@@ -8,7 +8,7 @@ ghost use Rattle.words.specs.declared.Word.TheVariants.{Number};
 ghost use Rattle.words.specs.Word.{is_digit, word_number};
 
 // What a word says: a number, or none.
-#[derive(Drop)]
+#[derive(Clone, Copy)]
 pub enum Word {
     Number(u32),
     Malformed,
