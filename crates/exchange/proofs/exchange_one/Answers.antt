@@ -3,4 +3,4 @@ use mathlib.Core.Path.{refl}
 use Rattle.exchange.proofs.exchange_one.Goals as goal
 
 pub returns : goal.returns
-returns c = (refl, (refl, refl))
+returns c = record { came = refl; stored = refl; sent = refl }

@@ -16,7 +16,7 @@ pub pass_pairs-most-requires : goal.pass_pairs-most-requires
 pass_pairs-most-requires c = c.pass_one-even.ensures.at.0
 
 pub pass_one-requires : goal.pass_one-requires
-pass_one-requires c = let pairs = c.pass_pairs-most.ensures in (pairs.0.0, pairs.0.1, omega arith)
+pass_one-requires c = let pairs = c.pass_pairs-most.ensures in (pairs.at.0, pairs.at.1, omega arith)
 
 pub shape_of-store : goal.shape_of-store
 shape_of-store c = c.pass_one.ensures.passed.places ∙ c.pass_pairs-most.ensures.passed.places ∙ c.pass_one-even.ensures.passed.places
@@ -29,4 +29,4 @@ returns c =
     let one = c.pass_one-even.ensures in
     let pairs = c.pass_pairs-most.ensures in
     let end = c.pass_one.ensures in
-    passes_to _ _ _ _ _ _ _ _ _ _ _ _ end.0.0.to end.0.1 (passes_then _ _ _ _ _ _ _ _ _ _ _ _ _ _ _ _ (passes_then _ _ _ _ _ _ _ _ _ _ _ _ _ _ _ _ one.1 pairs.1) end.1)
+    passes_to _ _ _ _ _ _ _ _ _ _ _ _ end.at.0.to end.at.1 (passes_then _ _ _ _ _ _ _ _ _ _ _ _ _ _ _ _ (passes_then _ _ _ _ _ _ _ _ _ _ _ _ _ _ _ _ one.passed pairs.passed) end.passed)

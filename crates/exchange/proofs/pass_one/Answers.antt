@@ -38,8 +38,8 @@ returns c =
     let near : a.from.p < a.e = omega (arith, g.requires.2, c.if-k-p.false) in
     let x = c.exchange_one-newest in record {
       at = (
-        one_at a.emitter a.m a.b a.e a.store.now a.cells.now a.from.p a.from.d a.from.at a.from.last g.requires.0 near _ _ c.next_delay-next.result x.result x.ensures.came x.ensures.stored.0 x.ensures.stored.1 c.next_delay-next.ensures,
+        one_at a.emitter a.m a.b a.e a.store.now a.cells.now a.from.p a.from.d a.from.at a.from.last g.requires.0 near _ _ c.next_delay-next.result x.result x.ensures.came x.ensures.stored x.ensures.sent c.next_delay-next.ensures,
         g.requires.1,
       );
-      passed = one_passes a.emitter a.m a.b a.e a.store.now a.cells.now a.from.p a.from.d a.from.at a.from.last g.requires.0 near _ _ c.next_delay-next.result x.result x.ensures.came x.ensures.stored.0 x.ensures.stored.1;
+      passed = one_passes a.emitter a.m a.b a.e a.store.now a.cells.now a.from.p a.from.d a.from.at a.from.last g.requires.0 near _ _ c.next_delay-next.result x.result x.ensures.came x.ensures.stored x.ensures.sent;
     }

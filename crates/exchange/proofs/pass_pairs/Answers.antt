@@ -1,5 +1,5 @@
 -- `exchange::pass_pairs` meets its contract. Assumes nothing.
-use Prim.Native.Nat.{◌-◌, ◌<◌}
+use Prim.Native.Nat.{◌<◌}
 use native.Mathlib.Omega.{arith}
 use Rattle.exchange.proofs.Groups.{passes_none, passes_then, fits, fits_two, two_at, two_passes}
 use Rattle.exchange.proofs.pass_pairs.Goals as goal
@@ -51,8 +51,8 @@ loop-p-preserved c =
     let l = c.loop-p in
     let next = c.next_delay-next in
     let x = c.exchange_two-newest in (
-      two_at a.emitter a.m a.b a.e l.store l.cells l.p l.d l.at l.last l.invariant.0 c.loop-p-test.true next.result next.ensures _ _ c.next_delay-after.result x.result x.ensures.came x.ensures.stored.0 x.ensures.stored.1 c.next_delay-after.ensures,
-      passes_then _ _ _ _ _ _ _ _ _ _ _ _ _ _ _ _ l.invariant.1 (two_passes a.emitter a.m a.b a.e l.store l.cells l.p l.d l.at l.last l.invariant.0 c.loop-p-test.true next.result next.ensures _ _ c.next_delay-after.result x.result x.ensures.came x.ensures.stored.0 x.ensures.stored.1),
+      two_at a.emitter a.m a.b a.e l.store l.cells l.p l.d l.at l.last l.invariant.0 c.loop-p-test.true next.result next.ensures _ _ c.next_delay-after.result x.result x.ensures.came x.ensures.stored x.ensures.sent c.next_delay-after.ensures,
+      passes_then _ _ _ _ _ _ _ _ _ _ _ _ _ _ _ _ l.invariant.1 (two_passes a.emitter a.m a.b a.e l.store l.cells l.p l.d l.at l.last l.invariant.0 c.loop-p-test.true next.result next.ensures _ _ c.next_delay-after.result x.result x.ensures.came x.ensures.stored x.ensures.sent),
     )
 
 pub shape_of-store : goal.shape_of-store

@@ -9,15 +9,16 @@ use Rattle.fill.proofs.Blocks.{stored_start}
 use Rattle.fill.proofs.Filling.{none_below, count_up, all_data_count, all_data_room}
 use Rattle.taking.proofs.Taking.{taken_from, taken_list, taken_block, taken_all}
 use Rattle.taking.proofs.take_data.Goals as goal
+use Rattle.taking.proofs.take_data.Goals.{then-all_data, else-all_data}
 use Rattle.taking.proofs.take_data.Goals.{Then-all_data}
 
 -- a block of data cells: there is room for them
-room : (c : Then-all_data) → c.loop-p.true + 16 ≤ length c.loop-p.buffer
+room : (c : Then-all_data) → c.loop-p.taken + 16 ≤ length c.loop-p.buffer
 room c =
     let g = c in
     let l = c.loop-p in
     let all = sym c.all_data.ensures ∙ c.if-all_data.true in
-    all_data_room g.args.flag.now l.p 16 l.true l.invariant.1 all _ _ c.loop-p-test.true (omega (arith, l.invariant.2.long, g.requires.2))
+    all_data_room g.args.flag.now l.p 16 l.taken l.invariant.1 all _ _ c.loop-p-test.true (omega (arith, l.invariant.2.long, g.requires.2))
 
 pub loop-p-init : goal.loop-p-init
 loop-p-init c = (omega arith, none_below _, stored_start _ _ _ _)
@@ -40,19 +41,16 @@ loop-p-preserved c =
     let a = c.args in
     let l = c.loop-p in
     let h = c.loop-p-test.true in
-    ⊎_elim
-    (λ w.
-    let all = sym c.all_data.ensures ∙ w.0.taken in (
+    elim c.if-all_data.branch [ then-all_data w ↦ 
+    let all = sym c.all_data.ensures ∙ w.if-all_data.true in (
       h,
-      w.6 ∙ ap (λ (x : ℕ). x + 16) l.invariant.1 ∙ sym (all_data_count a.flag.now l.p 16 all 16 (omega arith)),
-      taken_block a.flag.now a.cells.now a.buffer.now l.p 16 l.true l.buffer l.invariant.2 l.invariant.1 h all c.if-all_data.true c.if-all_data.buffer (w.5 ∙ w.2.ensures) w.6,
-    ))
-    (λ w. (
+      w.if-all_data.true-is ∙ ap (λ (x : ℕ). x + 16) l.invariant.1 ∙ sym (all_data_count a.flag.now l.p 16 all 16 (omega arith)),
+      taken_block a.flag.now a.cells.now a.buffer.now l.p 16 l.taken l.buffer l.invariant.2 l.invariant.1 h all c.if-all_data.taken c.if-all_data.buffer (w.buffer-is ∙ w.copy_block.ensures) w.if-all_data.true-is,
+    ) | else-all_data w ↦ (
       h,
-      w.6 ∙ w.2.ensures.0,
-      taken_from a.flag.now a.cells.now a.buffer.now c.if-all_data.true c.if-all_data.buffer (rw (w.5, w.6) (w.2.ensures.1 a.buffer.now (taken_list _ _ _ l.true l.buffer l.invariant.2))),
-    ))
-    c.if-all_data.branch
+      w.if-all_data.true-is ∙ w.take_cells-next.ensures.0,
+      taken_from a.flag.now a.cells.now a.buffer.now c.if-all_data.taken c.if-all_data.buffer (rw (w.buffer-is, w.if-all_data.true-is) (w.take_cells-next.ensures.1 a.buffer.now (taken_list _ _ _ l.taken l.buffer l.invariant.2))),
+    ) ]
 
 pub take_cells-requires : goal.take_cells-requires
 take_cells-requires c =
@@ -68,5 +66,5 @@ returns c =
     let end = c.take_cells.ensures in
     let e : l.p + (length a.cells.now - l.p) ≡ length a.cells.now = omega arith in
     taken_all a.flag.now a.cells.now a.buffer.now _ _
-    (taken_from _ _ _ _ _ (end.1 a.buffer.now (taken_list _ _ _ l.true l.buffer l.invariant.2)))
-    (end.0 ∙ ap (count (is_zero a.flag.now)) e)
+    (taken_from _ _ _ _ _ (end.stored a.buffer.now (taken_list _ _ _ l.taken l.buffer l.invariant.2)))
+    (end.number ∙ ap (count (is_zero a.flag.now)) e)

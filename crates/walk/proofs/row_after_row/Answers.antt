@@ -4,4 +4,4 @@ use Rattle.walk.proofs.Table.{walk_table}
 use Rattle.walk.proofs.row_after_row.Goals as goal
 
 pub returns : goal.returns
-returns c = (turned_rows, (plan_walk, walk_table))
+returns c = record { numbers = turned_rows; plans = plan_walk; table = walk_table }
