@@ -4,7 +4,7 @@
 ghost use Rattle.std.specs.Prelude.{◌+◌, ◌≤◌, ◌≡◌, length, take};
 ghost use Rattle.std.proofs.lemmas.List.Edits.{sets};
 ghost use Rattle.chains.specs.Last.{last_index};
-ghost use Rattle.copies.specs.Copy.{plan_max, two_bytes_lem, range_record, copy_with};
+ghost use Rattle.copies.specs.Copy.{plan_max, two_bytes, range_record, copy_with};
 
 // The bytes of the longest copy: that of a plan of 4,096.
 pub const COPY_MAX: usize = 4104;
@@ -15,7 +15,7 @@ const RANGE: u16 = 512;
 // A two-byte number put at byte `at`.
 fn put(copy: &mut [u8], at: usize, n: u16)
     requires { at + 2 ≤ length copy.old }
-    ensures { copy.new ≡ sets copy.old at (two_bytes_lem n) }
+    ensures { copy.new ≡ sets copy.old at (two_bytes n) }
 {
     copy[at] = (n / 256) as u8;
     copy[at + 1] = (n % 256) as u8;

@@ -1,8 +1,7 @@
 -- `taking::take_cells` meets its contract. The loop has passed i cells; what is taken is taken whatever stood in the buffer before the data of
 -- the cells below cell p. Assumes nothing.
-use Prim.Native.Nat.{ℕ, ◌+◌, ◌-◌, ◌<◌}
+use Prim.Native.Nat.{ℕ, ◌+◌, ◌<◌}
 use mathlib.Core.Path.{◌≡◌, refl, sym, ap, ◌∙◌}
-use mathlib.Core.Logic.{⊎_elim}
 use native.Mathlib.Nat.{add-zero}
 use native.Mathlib.Omega.{arith}
 use lib.ListN.{length, get_or, length-set}
@@ -39,17 +38,20 @@ loop-i-preserved c =
     let l = c.loop-i in
     let h = c.loop-i-test.true in
     let e = l.invariant.1 in
-    elim c.if-flag-p-eq0.branch [ then-flag-p-eq0 w ↦ (
-      omega arith,
-      data_next a.flag.now a.p l.i l.taken e w.if-flag-p-eq0.true c.if-flag-p-eq0.taken w.if-flag-p-eq0.true-is,
-      λ b t. taken_next a.flag.now a.cells.now b (a.p + l.i) l.taken l.buffer (l.invariant.2 b t) e (omega (arith, h, g.requires.0)) w.if-flag-p-eq0.true c.if-flag-p-eq0.taken c.if-flag-p-eq0.buffer w.buffer-is w.if-flag-p-eq0.true-is,
-      ap length w.buffer-is ∙ length-set l.buffer l.taken (get_or a.cells.now (a.p + l.i) 0) ∙ l.invariant.3,
-    ) | else-flag-p-eq0 w ↦ (
-      omega arith,
-      held_next a.flag.now a.p l.i l.taken e w.if-flag-p-eq0.false c.if-flag-p-eq0.taken w.if-flag-p-eq0.true-is,
-      λ b t. rw (w.buffer-is, w.if-flag-p-eq0.true-is) (l.invariant.2 b t),
-      ap length w.buffer-is ∙ l.invariant.3,
-    ) ]
+    elim c.if-flag-p-eq0.branch [
+      | then-flag-p-eq0 w ↦ (
+        omega arith,
+        data_next a.flag.now a.p l.i l.taken e w.if-flag-p-eq0.true c.if-flag-p-eq0.taken w.taken-is,
+        λ b t. taken_next a.flag.now a.cells.now b (a.p + l.i) l.taken l.buffer (l.invariant.2 b t) e (omega (arith, h, g.requires.0)) w.if-flag-p-eq0.true c.if-flag-p-eq0.taken c.if-flag-p-eq0.buffer w.buffer-is w.taken-is,
+        ap length w.buffer-is ∙ length-set l.buffer l.taken (get_or a.cells.now (a.p + l.i) 0) ∙ l.invariant.3,
+      )
+      | else-flag-p-eq0 w ↦ (
+        omega arith,
+        held_next a.flag.now a.p l.i l.taken e w.if-flag-p-eq0.false c.if-flag-p-eq0.taken w.taken-is,
+        λ b t. rw (w.buffer-is, w.taken-is) (l.invariant.2 b t),
+        ap length w.buffer-is ∙ l.invariant.3,
+      )
+    ]
 
 pub returns : goal.returns
 returns c =

@@ -1,7 +1,6 @@
 -- `taking::take_data` meets its contract. The data of the cells below p is taken. Assumes nothing.
 use Prim.Native.Nat.{ℕ, ◌+◌, ◌-◌, ◌≤◌}
 use mathlib.Core.Path.{◌≡◌, sym, ap, ◌∙◌}
-use mathlib.Core.Logic.{⊎_elim}
 use native.Mathlib.Omega.{arith}
 use lib.ListN.{length}
 use Rattle.counting.specs.Search.{count, is_zero}
@@ -41,16 +40,19 @@ loop-p-preserved c =
     let a = c.args in
     let l = c.loop-p in
     let h = c.loop-p-test.true in
-    elim c.if-all_data.branch [ then-all_data w ↦ 
-    let all = sym c.all_data.ensures ∙ w.if-all_data.true in (
-      h,
-      w.if-all_data.true-is ∙ ap (λ (x : ℕ). x + 16) l.invariant.1 ∙ sym (all_data_count a.flag.now l.p 16 all 16 (omega arith)),
-      taken_block a.flag.now a.cells.now a.buffer.now l.p 16 l.taken l.buffer l.invariant.2 l.invariant.1 h all c.if-all_data.taken c.if-all_data.buffer (w.buffer-is ∙ w.copy_block.ensures) w.if-all_data.true-is,
-    ) | else-all_data w ↦ (
-      h,
-      w.if-all_data.true-is ∙ w.take_cells-next.ensures.0,
-      taken_from a.flag.now a.cells.now a.buffer.now c.if-all_data.taken c.if-all_data.buffer (rw (w.buffer-is, w.if-all_data.true-is) (w.take_cells-next.ensures.1 a.buffer.now (taken_list _ _ _ l.taken l.buffer l.invariant.2))),
-    ) ]
+    elim c.if-all_data.branch [
+      | then-all_data w ↦
+          let all = sym c.all_data.ensures ∙ w.if-all_data.true in (
+            h,
+            w.taken-is ∙ ap (λ (x : ℕ). x + 16) l.invariant.1 ∙ sym (all_data_count a.flag.now l.p 16 all 16 (omega arith)),
+            taken_block a.flag.now a.cells.now a.buffer.now l.p 16 l.taken l.buffer l.invariant.2 l.invariant.1 h all c.if-all_data.taken c.if-all_data.buffer (w.buffer-is ∙ w.copy_block.ensures) w.taken-is,
+          )
+      | else-all_data w ↦ (
+        h,
+        w.taken-is ∙ w.take_cells-next.ensures.number,
+        taken_from a.flag.now a.cells.now a.buffer.now c.if-all_data.taken c.if-all_data.buffer (rw (w.buffer-is, w.taken-is) (w.take_cells-next.ensures.stored a.buffer.now (taken_list _ _ _ l.taken l.buffer l.invariant.2))),
+      )
+    ]
 
 pub take_cells-requires : goal.take_cells-requires
 take_cells-requires c =
