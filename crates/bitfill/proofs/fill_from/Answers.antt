@@ -1,5 +1,5 @@
 -- `bitfill::fill_from` meets its contract. The cells below c are filled, and `left` bits are left. Assumes nothing.
-use Prim.Native.Nat.{ℕ, ◌+◌, ◌-◌, ◌/◌, ◌%◌, ◌^◌, ◌≤◌}
+use Prim.Native.Nat.{ℕ, ◌+◌, ◌/◌, ◌%◌, ◌^◌, ◌≤◌}
 use mathlib.Core.Path.{◌≡◌, refl, ap, ◌∙◌}
 use mathlib.Core.List.{List}
 use native.Mathlib.Numerals.{add-one}
@@ -56,12 +56,12 @@ loop-left-preserved c =
     let v = c.eight_at-w.result in
     let x : v / 2 ^ w.bit % 2 ^ get_or ls w.c 0 ≡ get_or xs w.c 0 = rw e (window_cell ls g.stream.now 64 g.start w.c w.at w.bit (omega (arith, h)) w.invariant.2 (omega (arith, l, w.invariant.3))) in
     let y : v / 2 ^ (w.bit + get_or ls w.c 0) % 2 ^ get_or ls (w.c + 1) 0 ≡ get_or xs (w.c + 1) 0 = rw e (window_cell ls g.stream.now 64 g.start (w.c + 1) w.at (w.bit + get_or ls w.c 0) (omega (arith, h)) (omega (arith, t1, w.invariant.2)) (omega (arith, l, m, w.invariant.3))) in (
-      omega (arith, t1, t2, f.0, w.invariant.0, i.loop-left-test.true),
+      omega (arith, t1, t2, f.taken, w.invariant.0, i.loop-left-test.true),
       omega (arith, h),
-      omega (arith, t1, t2, f.0, w.invariant.2),
+      omega (arith, t1, t2, f.taken, w.invariant.2),
       omega arith,
       omega arith,
-      ap (take (w.c + 2)) f.1 ∙ first_two w.cells xs w.c _ _ (omega (arith, h)) (rw length_filled (omega (arith, h))) w.invariant.5 x y,
+      ap (take (w.c + 2)) f.filled ∙ first_two w.cells xs w.c _ _ (omega (arith, h)) (rw length_filled (omega (arith, h))) w.invariant.5 x y,
     )
 
 pub fill_rest-requires : goal.fill_rest-requires
