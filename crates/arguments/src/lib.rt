@@ -6,39 +6,75 @@ ghost use Rattle.console.specs.Reading.{Holds};
 ghost use Rattle.words.specs.Word.{UpTo};
 
 use console::Input;
+use std::env::{Env, FillError};
+use std::fs;
+use std::rt::Files;
 use words::Word;
 
-// How many words the program was given, its own name left out.
-pub fn word_count() -> usize {
-    let all = os::arg_count();
-    if all == 0 {
-        return 0;
+// Whether the program was given word i, counted from 1.
+fn is_given<R: Env>(rt: &R, i: usize) -> bool {
+    match rt.arg(i, &mut []) {
+        Ok(_) => true,
+        Err(FillError::TooLong) => true,
+        Err(FillError::NotPresent) => false,
     }
-    all - 1
+}
+
+// How many words the program was given, its own name left out.
+pub fn word_count<R: Env>(rt: &R) -> usize {
+    let mut count = 0;
+    while count < usize::MAX {
+        if !is_given(rt, count + 1) {
+            return count;
+        }
+        count += 1;
+    }
+    count
 }
 
 // The number up to `most` that word i spells, counted from 1. A word that is missing or longer than 64 bytes is malformed, like one that is
 // no such number.
-pub fn number_word(i: usize, most: u32) -> Word
+pub fn number_word<R: Env>(rt: &R, i: usize, most: u32) -> Word
     ensures { UpTo most result }
 {
     let mut bytes = [0u8; 64];
-    let n = os::arg(i, &mut bytes);
-    words::word_number(&bytes[..n], most)
+    match rt.arg(i, &mut bytes) {
+        Ok(n) => words::word_number(&bytes[..n], most),
+        Err(_) => Word::Malformed,
+    }
+}
+
+// The same of a file that is named in text.
+fn read_named<R: Files>(rt: &R, name: &str, bytes: &mut [u8]) -> Input
+    ensures { Holds result bytes.new }
+{
+    match fs::open(rt, name) {
+        Ok(file) => {
+            let mut opened = file;
+            console::read_open(&mut opened, bytes)
+        }
+        Err(_) => Input::Failed,
+    }
+}
+
+// The same of a file that is named in bytes, which no file is where they are no text.
+fn read_path<R: Files>(rt: &R, path: &[u8], bytes: &mut [u8]) -> Input
+    ensures { Holds result bytes.new }
+{
+    match str::from_utf8(path) {
+        Ok(name) => read_named(rt, name, bytes),
+        Err(_) => Input::Failed,
+    }
 }
 
 // Reads the file that word i names, counted from 1, until the bytes are full or the file ends. It has failed where the word is missing or
 // names no file that can be opened, and where a read fails, as of a folder.
-pub fn read_file(i: usize, bytes: &mut [u8]) -> Input
+pub fn read_file<R: Env + Files>(rt: &R, i: usize, bytes: &mut [u8]) -> Input
     ensures { Holds result bytes.new }
 {
     let mut path = io::buffer();
-    let n = os::arg(i, &mut path);
-    let descriptor = os::open_read(&path[..n]);
-    if descriptor < 0 {
-        return Input::Failed;
+    match rt.arg(i, &mut path) {
+        Ok(n) => read_path(rt, &path[..n], bytes),
+        Err(_) => Input::Failed,
     }
-    let got = console::read_open(descriptor, bytes);
-    libc::close(descriptor);
-    got
 }

@@ -7,6 +7,27 @@ ghost use Rattle.io.specs.Counts.{IsPrefixLen};
 ghost use Rattle.console.specs.Number.{number, number_at};
 ghost use Rattle.console.specs.Reading.{Holds, HoldsFrom};
 
+use std::io::{Read, Stderr, Stdin, Stdout, Write};
+
+// The streams of a program: what it reads, what it prints to, and where it tells what failed.
+#[derive(Drop)]
+pub struct Streams<I, O, E> {
+    pub input: I,
+    pub output: O,
+    pub errors: E,
+}
+
+// The three standard streams.
+pub type Standard = Streams<Stdin, Stdout, Stderr>;
+
+pub fn standard(rt: &HostRuntime) -> Standard {
+    Streams {
+        input: rt.stdin(),
+        output: rt.stdout(),
+        errors: rt.stderr(),
+    }
+}
+
 // What reading gave: so many bytes, fewer than there was room for only where the input ended, or nothing, as a read failed.
 #[derive(Clone, Copy)]
 pub enum Input {
@@ -14,27 +35,25 @@ pub enum Input {
     Failed,
 }
 
-// One read of a descriptor into the bytes from a place on: how many it put there, 0 where the input has ended. A read that a signal
-// interrupts before it moves a byte has failed.
-fn read_from(descriptor: i32, bytes: &mut [u8], from: usize) -> Input
+// One read into the bytes from a place on: how many it put there, 0 where the input has ended. A read that a signal interrupts before it
+// moves a byte has failed.
+fn read_from<R: Read>(reader: &mut R, bytes: &mut [u8], from: usize) -> Input
     requires { from ≤ length bytes.old }
     ensures { HoldsFrom from result bytes.new }
 {
-    let rest = &mut bytes[from..];
-    let got = libc::read(descriptor, rest);
-    if got < 0 {
-        return Input::Failed;
+    match reader.read(&mut bytes[from..]) {
+        Ok(n) => Input::Bytes(n),
+        Err(_) => Input::Failed,
     }
-    Input::Bytes(io::count(got, rest))
 }
 
-// Reads a descriptor until the bytes are full, the input ends or a read fails.
-pub fn read_open(descriptor: i32, bytes: &mut [u8]) -> Input
+// Reads until the bytes are full, the input ends or a read fails.
+pub fn read_open<R: Read>(reader: &mut R, bytes: &mut [u8]) -> Input
     ensures { Holds result bytes.new }
 {
     let mut done = 0;
     while done < bytes.len() {
-        match read_from(descriptor, bytes, done) {
+        match read_from(reader, bytes, done) {
             Input::Failed => return Input::Failed,
             Input::Bytes(n) => {
                 if n == 0 {
@@ -47,48 +66,52 @@ pub fn read_open(descriptor: i32, bytes: &mut [u8]) -> Input
     Input::Bytes(done)
 }
 
-// The same of standard input.
-pub fn read(bytes: &mut [u8]) -> Input
+// The same of a program's input.
+pub fn read<I: Read, O, E>(streams: &mut Streams<I, O, E>, bytes: &mut [u8]) -> Input
     ensures { Holds result bytes.new }
 {
-    read_open(0, bytes)
+    read_open(&mut streams.input, bytes)
 }
 
-// Tells standard error what the program of this name could not do, or what it expects.
-pub fn tell(program: &[u8], what: &[u8]) {
-    io::write_all(2, program);
-    io::write_all(2, what);
+// Tells what the program of this name could not do, or what it expects.
+pub fn tell<I, O, E: Write>(streams: &mut Streams<I, O, E>, program: &[u8], what: &[u8]) {
+    let _ = streams.errors.write_all(program);
+    let _ = streams.errors.write_all(what);
 }
 
 // Tells that a read of standard input failed.
-pub fn tell_unread(program: &[u8]) {
-    tell(program, b": standard input cannot be read\n");
+pub fn tell_unread<I, O, E: Write>(streams: &mut Streams<I, O, E>, program: &[u8]) {
+    tell(streams, program, b": standard input cannot be read\n");
 }
 
-// Fills the bytes from standard input; false where it ends before, or where a read fails, which is told.
-pub fn fill(program: &[u8], bytes: &mut [u8]) -> bool {
-    match read(bytes) {
+// Fills the bytes from the input; false where it ends before, or where a read fails, which is told.
+pub fn fill<I: Read, O, E: Write>(
+    streams: &mut Streams<I, O, E>,
+    program: &[u8],
+    bytes: &mut [u8],
+) -> bool {
+    match read(streams, bytes) {
         Input::Bytes(n) => n == bytes.len(),
         Input::Failed => {
-            tell_unread(program);
+            tell_unread(streams, program);
             false
         }
     }
 }
 
 // Reads on into the space; false where the input has ended or a read failed.
-fn read_more(space: &mut [u8]) -> bool {
-    match read(space) {
+fn read_more<I: Read, O, E>(streams: &mut Streams<I, O, E>, space: &mut [u8]) -> bool {
+    match read(streams, space) {
         Input::Bytes(n) => 0 < n,
         Input::Failed => false,
     }
 }
 
 // Reads on into the space, over and over, until the input ends, a read fails or it was filled 1,024 times.
-pub fn read_on(space: &mut [u8]) {
+pub fn read_on<I: Read, O, E>(streams: &mut Streams<I, O, E>, space: &mut [u8]) {
     let mut left: u32 = 1024;
     while 0 < left {
-        if !read_more(space) {
+        if !read_more(streams, space) {
             return;
         }
         left -= 1;
@@ -136,13 +159,19 @@ pub fn at_most(n: usize, bytes: &[u8]) -> usize
     bytes.len()
 }
 
-// Writes the bytes to standard output; false where that fails, which is told.
-pub fn print(program: &[u8], bytes: &[u8]) -> bool {
-    if io::write_all(1, bytes) {
-        return true;
+// Prints the bytes; false where they cannot be written, which is told.
+pub fn print<I, O: Write, E: Write>(
+    streams: &mut Streams<I, O, E>,
+    program: &[u8],
+    bytes: &[u8],
+) -> bool {
+    match streams.output.write_all(bytes) {
+        Ok(()) => true,
+        Err(_) => {
+            tell(streams, program, b": standard output cannot be written\n");
+            false
+        }
     }
-    tell(program, b": standard output cannot be written\n");
-    false
 }
 
 // The number at a place, 0 past the end.
@@ -154,24 +183,33 @@ fn at(numbers: [u32; 7], place: usize) -> u32 {
 }
 
 // Prints a number.
-fn print_number(program: &[u8], n: u32) -> bool {
+fn print_number<I, O: Write, E: Write>(
+    streams: &mut Streams<I, O, E>,
+    program: &[u8],
+    n: u32,
+) -> bool {
     let mut digits = [0; 20];
     let k = io::decimal(n as u64, &mut digits);
-    print(program, &digits[..k])
+    print(streams, program, &digits[..k])
 }
 
 // Prints a text in which each # stands for the next of the numbers; false where it was not written to its end, which is told.
-pub fn print_line(program: &[u8], text: &[u8], numbers: [u32; 7]) -> bool {
+pub fn print_line<I, O: Write, E: Write>(
+    streams: &mut Streams<I, O, E>,
+    program: &[u8],
+    text: &[u8],
+    numbers: [u32; 7],
+) -> bool {
     let mut next: usize = 0;
     let mut i: usize = 0;
     while i < text.len() {
         let byte = text[i];
         if byte == b'#' {
-            if !print_number(program, at(numbers, next)) {
+            if !print_number(streams, program, at(numbers, next)) {
                 return false;
             }
             next += 1;
-        } else if !print(program, &[byte]) {
+        } else if !print(streams, program, &[byte]) {
             return false;
         }
         i += 1;
@@ -180,8 +218,15 @@ pub fn print_line(program: &[u8], text: &[u8], numbers: [u32; 7]) -> bool {
 }
 
 // The line of a case whose fresh start is refused.
-pub fn print_refused(program: &[u8], number: u32, place: u32, sum: u32) -> bool {
+pub fn print_refused<I, O: Write, E: Write>(
+    streams: &mut Streams<I, O, E>,
+    program: &[u8],
+    number: u32,
+    place: u32,
+    sum: u32,
+) -> bool {
     print_line(
+        streams,
         program,
         b"refused # # #\n",
         [number, place, sum, 0, 0, 0, 0],

@@ -9,6 +9,7 @@
 mod either;
 mod kinds;
 
+use console::Standard;
 use kinds::{STORE, SYMBOL};
 use rules::{EmitterState, SendAnswer, StartAnswer};
 
@@ -115,8 +116,9 @@ fn mixed_tight(
 }
 
 // The line of a case.
-fn print_run(run: Run, sum: u32) -> bool {
+fn print_run(streams: &mut Standard, run: Run, sum: u32) -> bool {
     console::print_line(
+        streams,
         b"emitcases",
         b"# # #\n",
         [run.sent, run.refused, sum, 0, 0, 0, 0],
@@ -125,6 +127,7 @@ fn print_run(run: Run, sum: u32) -> bool {
 
 // The steps of a case from its fresh start on, and its line; the steps of a refused one are not taken.
 fn started(
+    streams: &mut Standard,
     answer: StartAnswer,
     sum: u32,
     second: bool,
@@ -136,7 +139,7 @@ fn started(
     match answer {
         StartAnswer::Refused(number, place) => {
             let end = sums::mixed_cells(sum, store, STORE);
-            console::print_refused(b"emitcases", number, place, end)
+            console::print_refused(streams, b"emitcases", number, place, end)
         }
         StartAnswer::Started(state) => {
             let begun = Run {
@@ -149,36 +152,49 @@ fn started(
             };
             let run = steps(begun, plan, need, bytes, store);
             let end = sums::mixed_cells(run.sum, store, STORE);
-            print_run(run, end)
+            print_run(streams, run, end)
         }
     }
 }
 
 // A case that is read: N_D, the fresh starts, the steps.
-fn start(second: bool, plan: &[u8], phase: u32, bytes: &[u8], store: &mut [u16; STORE]) -> bool {
+fn start(
+    streams: &mut Standard,
+    second: bool,
+    plan: &[u8],
+    phase: u32,
+    bytes: &[u8],
+    store: &mut [u16; STORE],
+) -> bool {
     let need = either::need(second, plan);
     let tight = mixed_tight(mixed_counts(plan), second, plan, phase, need, store);
     let answer = either::fresh_emitter(second, plan, phase, STORE, store);
     let sum = sums::mixed_start(tight, answer);
-    started(answer, sum, second, plan, need, bytes, store)
+    started(streams, answer, sum, second, plan, need, bytes, store)
 }
 
 // Reads a plan and steps of these lengths and tries them; false where they could not be read whole or the line was not written.
-fn try_case(second: bool, plan: &mut [u8], phase: u32, bytes: &mut [u8]) -> bool {
-    if !console::fill(b"emitcases", plan) {
+fn try_case(
+    streams: &mut Standard,
+    second: bool,
+    plan: &mut [u8],
+    phase: u32,
+    bytes: &mut [u8],
+) -> bool {
+    if !console::fill(streams, b"emitcases", plan) {
         return false;
     }
-    if !console::fill(b"emitcases", bytes) {
+    if !console::fill(streams, b"emitcases", bytes) {
         return false;
     }
     let mut store = [BEFORE; STORE];
-    start(second, plan, phase, bytes, &mut store)
+    start(streams, second, plan, phase, bytes, &mut store)
 }
 
 // One case; false where the input has ended, or this case was not read or not printed.
-fn one_case() -> bool {
+fn one_case(streams: &mut Standard) -> bool {
     let mut head = [0u8; 16];
-    if !console::fill(b"emitcases", &mut head) {
+    if !console::fill(streams, b"emitcases", &mut head) {
         return false;
     }
     let length = console::number_at(&head, 0);
@@ -189,14 +205,15 @@ fn one_case() -> bool {
     let mut bytes = io::large_buffer();
     let n = console::at_most(length as usize, &plan);
     let k = console::at_most(count as usize, &bytes);
-    try_case(second, &mut plan[..n], phase, &mut bytes[..k])
+    try_case(streams, second, &mut plan[..n], phase, &mut bytes[..k])
 }
 
 // The lines of up to 1000 cases.
-fn main() {
+fn main(rt: HostRuntime) {
+    let mut streams = console::standard(&rt);
     let mut left: u32 = 1000;
     while 0 < left {
-        if !one_case() {
+        if !one_case(&mut streams) {
             return;
         }
         left -= 1;

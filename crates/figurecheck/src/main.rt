@@ -16,18 +16,31 @@ ghost use Rattle.trials.specs.Parts.{needed};
 mod pair;
 mod steps;
 
-use console::Input;
+use console::{Input, Standard};
 use pair::{Pair, SENT, STORE, more};
 use rules::Verdict;
 
 // The pair with fresh emitters, if its next symbol is the first of a run.
-fn fresh(pair: Pair, plan: &[u8], first: &mut [u16; STORE], second: &mut [u16; STORE]) -> Pair {
+fn fresh(
+    streams: &mut Standard,
+    pair: Pair,
+    plan: &[u8],
+    first: &mut [u16; STORE],
+    second: &mut [u16; STORE],
+) -> Pair {
     if pair.t != 0 {
         return pair;
     }
     let one = trials::fresh_emitter(plan, pair.start, STORE, first);
     let other = figuretrials::fresh_emitter(plan, pair.start, STORE, second);
-    pair::answered(pair, SENT, SENT, pair::start_of(one), pair::start_of(other))
+    pair::answered(
+        streams,
+        pair,
+        SENT,
+        SENT,
+        pair::start_of(one),
+        pair::start_of(other),
+    )
 }
 
 // The pair with a symbol counted; a run has 2 M + 3 symbols.
@@ -57,13 +70,13 @@ fn one_symbol(
 }
 
 // The pair after the runs from all starting phases, or after the symbol with the first difference.
-fn runs(begun: Pair, plan: &[u8]) -> Pair {
+fn runs(streams: &mut Standard, begun: Pair, plan: &[u8]) -> Pair {
     let mut first = [0u16; STORE];
     let mut second = [0u16; STORE];
     let mut pair = begun;
     let mut left = (2 * (begun.depth as u64) + 3) * 128;
     while 0 < left {
-        let fresh_pair = fresh(pair, plan, &mut first, &mut second);
+        let fresh_pair = fresh(streams, pair, plan, &mut first, &mut second);
         let next = one_symbol(fresh_pair, plan, &mut first, &mut second);
         pair = next;
         if !pair.same {
@@ -106,10 +119,11 @@ fn shown(n: usize) -> u32 {
 }
 
 // Runs both emitters under an accepted plan of N_I n, and prints the line where all was the same.
-fn check_pair(plan: &[u8], n: u32) {
-    let pair = runs(new_pair(plan), plan);
+fn check_pair(streams: &mut Standard, plan: &[u8], n: u32) {
+    let pair = runs(streams, new_pair(plan), plan);
     if pair.same {
         console::print_line(
+            streams,
             b"figurecheck",
             b"same # phases # symbols # refused # cells a symbol # lines # turns a symbol # cells in lines\n",
             [
@@ -126,27 +140,29 @@ fn check_pair(plan: &[u8], n: u32) {
 }
 
 // Judges a plan, and runs both emitters under an accepted one.
-fn check_plan(plan: &[u8]) {
+fn check_plan(streams: &mut Standard, plan: &[u8]) {
     match judge::judge(plan) {
         Verdict::Refused(number, place) => {
             console::print_line(
+                streams,
                 b"figurecheck",
                 b"refused # #\n",
                 [number, place, 0, 0, 0, 0, 0],
             );
         }
-        Verdict::Accepted(n) => check_pair(plan, n),
+        Verdict::Accepted(n) => check_pair(streams, plan, n),
     }
 }
 
-fn main() {
+fn main(rt: HostRuntime) {
+    let mut streams = console::standard(&rt);
     let mut buf = io::large_buffer();
-    match console::read(&mut buf) {
-        Input::Failed => console::tell_unread(b"figurecheck"),
+    match console::read(&mut streams, &mut buf) {
+        Input::Failed => console::tell_unread(&mut streams, b"figurecheck"),
         Input::Bytes(n) => {
-            check_plan(&buf[..n]);
+            check_plan(&mut streams, &buf[..n]);
             if n == 65536 {
-                console::read_on(&mut buf);
+                console::read_on(&mut streams, &mut buf);
             }
         }
     }

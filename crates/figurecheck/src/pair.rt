@@ -2,6 +2,7 @@
 ghost use Rattle.std.specs.Prelude.{◌≡◌, not, length, ◌==◌, slice_index};
 ghost use Rattle.samples.specs.Inputs.{first_of};
 
+use console::Standard;
 use rules::{EmitterState, SendAnswer, StartAnswer};
 
 // The cells of a store, and of a symbol.
@@ -79,9 +80,9 @@ pub(crate) fn step_of(answer: SendAnswer) -> Answer {
 }
 
 // The pair after a difference; the first is printed, as a text with its numbers.
-fn differs(pair: Pair, text: &[u8], numbers: [u32; 7]) -> Pair {
+fn differs(streams: &mut Standard, pair: Pair, text: &[u8], numbers: [u32; 7]) -> Pair {
     if pair.same {
-        console::print_line(b"figurecheck", text, numbers);
+        console::print_line(streams, b"figurecheck", text, numbers);
     }
     let mut next = pair;
     next.same = false;
@@ -89,14 +90,20 @@ fn differs(pair: Pair, text: &[u8], numbers: [u32; 7]) -> Pair {
 }
 
 // The pair after a difference of two numbers of the answers.
-fn answers_differ(pair: Pair, text: &[u8], one: u32, other: u32) -> Pair {
-    differs(pair, text, [pair.start, pair.t, one, other, 0, 0, 0])
+fn answers_differ(streams: &mut Standard, pair: Pair, text: &[u8], one: u32, other: u32) -> Pair {
+    differs(
+        streams,
+        pair,
+        text,
+        [pair.start, pair.t, one, other, 0, 0, 0],
+    )
 }
 
 // The pair after answers whose codes are right: place and phase have to be the same. A phase that is none is not taken back.
-fn agreed(pair: Pair, code: u32, first: Answer, second: Answer) -> Pair {
+fn agreed(streams: &mut Standard, pair: Pair, code: u32, first: Answer, second: Answer) -> Pair {
     if first.place != second.place {
         return answers_differ(
+            streams,
             pair,
             b"differs phase # symbol # place # second #\n",
             first.place,
@@ -105,6 +112,7 @@ fn agreed(pair: Pair, code: u32, first: Answer, second: Answer) -> Pair {
     }
     if first.phase != second.phase {
         return answers_differ(
+            streams,
             pair,
             b"differs phase # symbol # next # second #\n",
             first.phase,
@@ -123,6 +131,7 @@ fn agreed(pair: Pair, code: u32, first: Answer, second: Answer) -> Pair {
 
 // The pair after these answers, which should have these codes.
 pub(crate) fn answered(
+    streams: &mut Standard,
     pair: Pair,
     code: u32,
     second_code: u32,
@@ -131,6 +140,7 @@ pub(crate) fn answered(
 ) -> Pair {
     if first.code != code {
         return answers_differ(
+            streams,
             pair,
             b"differs phase # symbol # answer # first #\n",
             code,
@@ -139,13 +149,14 @@ pub(crate) fn answered(
     }
     if second.code != second_code {
         return answers_differ(
+            streams,
             pair,
             b"differs phase # symbol # answer # second #\n",
             second_code,
             second.code,
         );
     }
-    agreed(pair, code, first, second)
+    agreed(streams, pair, code, first, second)
 }
 
 // The lowest subcarrier whose cells differ; the length where there is none.
@@ -163,7 +174,12 @@ fn first_apart(first: &[u16], second: &[u16]) -> usize
 }
 
 // The pair after the two symbols were compared.
-pub(crate) fn compared(pair: Pair, first: &[u16; SYMBOL], second: &[u16; SYMBOL]) -> Pair {
+pub(crate) fn compared(
+    streams: &mut Standard,
+    pair: Pair,
+    first: &[u16; SYMBOL],
+    second: &[u16; SYMBOL],
+) -> Pair {
     let k = first_apart(first, second);
     if SYMBOL <= k {
         return pair;
@@ -171,6 +187,7 @@ pub(crate) fn compared(pair: Pair, first: &[u16; SYMBOL], second: &[u16; SYMBOL]
     let one = samples::at(first, k);
     let other = samples::at(second, k);
     differs(
+        streams,
         pair,
         b"differs phase # symbol # subcarrier # first # second #\n",
         [pair.start, pair.t, k as u32, one as u32, other as u32, 0, 0],

@@ -1,4 +1,5 @@
 // What a case and its acts are given: the profile, the stream, and the numbers of standard input.
+use console::Standard;
 
 // The bytes of the profile, one more than are right, and of each stream.
 pub(crate) const PROFILE: usize = 4097;
@@ -31,9 +32,9 @@ pub(crate) struct Act {
 }
 
 // The next act of standard input.
-pub(crate) fn next_act() -> Act {
+pub(crate) fn next_act(streams: &mut Standard) -> Act {
     let mut bytes = [0u8; 36];
-    let read = console::fill(b"fillcases", &mut bytes);
+    let read = console::fill(streams, b"fillcases", &mut bytes);
     let high = console::number_at(&bytes, 7);
     let low = console::number_at(&bytes, 8);
     Act {

@@ -9,6 +9,7 @@
 
 mod given;
 
+use console::Standard;
 use given::{Act, Head, PROFILE, STREAM, changed};
 use rules::{
     CountAnswer, EmitterState, ListenAnswer, ReceiveAnswer, ReceiverState, SendAnswer, StartAnswer,
@@ -262,6 +263,7 @@ fn receive(
 
 // The run after the acts, or up to the one that could not be read. The profile is after each as before.
 fn acts(
+    streams: &mut Standard,
     begun: Run,
     plan: &[u8],
     head: Head,
@@ -279,7 +281,7 @@ fn acts(
     let mut run = begun;
     let mut left = head.acts;
     while 0 < left {
-        let act = given::next_act();
+        let act = given::next_act(streams);
         if !act.read {
             run.read = false;
             return run;
@@ -314,7 +316,7 @@ fn fresh_receiver(plan: &[u8], phase: u32, store: &mut [u16; STORE]) -> Receiver
 }
 
 // The run of a case whose plan is read.
-fn ran(plan: &[u8], head: Head) -> Run {
+fn ran(streams: &mut Standard, plan: &[u8], head: Head) -> Run {
     let mut sending = [BEFORE; STORE];
     let mut listening = [BEFORE; STORE];
     let begun = Run {
@@ -326,15 +328,16 @@ fn ran(plan: &[u8], head: Head) -> Run {
         refused: 0,
         bits: 0,
     };
-    acts(begun, plan, head, &mut sending, &mut listening)
+    acts(streams, begun, plan, head, &mut sending, &mut listening)
 }
 
 // The line of a case; none where it could not be read whole.
-fn print_run(run: Run) -> bool {
+fn print_run(streams: &mut Standard, run: Run) -> bool {
     if !run.read {
         return false;
     }
     console::print_line(
+        streams,
         b"fillcases",
         b"# # # #\n",
         [run.accepted, run.refused, run.bits, run.sum, 0, 0, 0],
@@ -342,17 +345,17 @@ fn print_run(run: Run) -> bool {
 }
 
 // Reads a plan of this length and tries it; false where the case could not be read whole or its line was not written.
-fn try_case(plan: &mut [u8], head: Head) -> bool {
-    if !console::fill(b"fillcases", plan) {
+fn try_case(streams: &mut Standard, plan: &mut [u8], head: Head) -> bool {
+    if !console::fill(streams, b"fillcases", plan) {
         return false;
     }
-    print_run(ran(plan, head))
+    print_run(streams, ran(streams, plan, head))
 }
 
 // One case; false where the input has ended, or this case was not read or not printed.
-fn one_case() -> bool {
+fn one_case(streams: &mut Standard) -> bool {
     let mut bytes = [0u8; 24];
-    if !console::fill(b"fillcases", &mut bytes) {
+    if !console::fill(streams, b"fillcases", &mut bytes) {
         return false;
     }
     let length = console::number_at(&bytes, 0);
@@ -365,14 +368,15 @@ fn one_case() -> bool {
     };
     let mut buf = io::large_buffer();
     let n = console::at_most(length as usize, &buf);
-    try_case(&mut buf[..n], head)
+    try_case(streams, &mut buf[..n], head)
 }
 
 // The lines of up to 1000 cases.
-fn main() {
+fn main(rt: HostRuntime) {
+    let mut streams = console::standard(&rt);
     let mut left: u32 = 1000;
     while 0 < left {
-        if !one_case() {
+        if !one_case(&mut streams) {
             return;
         }
         left -= 1;

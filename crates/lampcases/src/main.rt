@@ -9,6 +9,7 @@
 
 ghost use Rattle.io.specs.Counts.{IsPrefixLen};
 
+use console::Standard;
 use lampgrounds::LampAnswer;
 use pilots::PILOTS;
 use rules::CountAnswer;
@@ -142,16 +143,18 @@ fn begin(plan: &[u8]) -> Run {
 }
 
 // Prints the line of a run; false where it was not written.
-fn print_run(run: Run) -> bool {
+fn print_run(streams: &mut Standard, run: Run) -> bool {
     let answer = run.answer;
     match answer {
         CountAnswer::Refused(number, place) => console::print_refused(
+            streams,
             b"lampcases",
             number,
             place,
             run.sum,
         ),
         CountAnswer::Count(n) => console::print_line(
+            streams,
             b"lampcases",
             b"lit # of # #\n",
             [run.lit, n, run.sum, 0, 0, 0, 0],
@@ -161,30 +164,34 @@ fn print_run(run: Run) -> bool {
 
 // Reads the plan, the record and the changes of a case, and runs it; false where they could not be read whole or its line was not written.
 fn run_case(
+    streams: &mut Standard,
     case: Case,
     filler: u16,
     plan: &mut [u8],
     counts: &mut [u8],
     changes: &mut [u8],
 ) -> bool {
-    if !console::fill(b"lampcases", plan) {
+    if !console::fill(streams, b"lampcases", plan) {
         return false;
     }
-    if !console::fill(b"lampcases", counts) {
+    if !console::fill(streams, b"lampcases", counts) {
         return false;
     }
-    if !console::fill(b"lampcases", changes) {
+    if !console::fill(streams, b"lampcases", changes) {
         return false;
     }
     let mut symbol = [filler; CELLS];
     let n = at_most(case.cells, &symbol);
-    print_run(steps(begin(plan), case, plan, changes, &mut symbol[..n], counts))
+    print_run(
+        streams,
+        steps(begin(plan), case, plan, changes, &mut symbol[..n], counts),
+    )
 }
 
 // One case; false where the input has ended, or this case was not read or not printed.
-fn one_case() -> bool {
+fn one_case(streams: &mut Standard) -> bool {
     let mut head = [0u8; 24];
-    if !console::fill(b"lampcases", &mut head) {
+    if !console::fill(streams, b"lampcases", &mut head) {
         return false;
     }
     let mut buf = io::large_buffer();
@@ -199,6 +206,7 @@ fn one_case() -> bool {
     };
     let bytes = console::at_most(case.changes as usize * 12, &changes);
     run_case(
+        streams,
         case,
         (console::number_at(&head, 4) % 65536) as u16,
         &mut buf[..plan],
@@ -208,10 +216,11 @@ fn one_case() -> bool {
 }
 
 // The lines of up to 10,000 cases.
-fn main() {
+fn main(rt: HostRuntime) {
+    let mut streams = console::standard(&rt);
     let mut left: u32 = 10000;
     while 0 < left {
-        if !one_case() {
+        if !one_case(&mut streams) {
             return;
         }
         left -= 1;

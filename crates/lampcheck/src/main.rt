@@ -4,7 +4,7 @@
 // cannot be read, where there is no symbol or the input ends within one, or where a line cannot be written, standard error is told.
 #![tactic(auto)]
 
-use console::Input;
+use console::{Input, Standard};
 use pilots::PILOTS;
 use rules::CountAnswer;
 
@@ -18,37 +18,49 @@ const RECORD: usize = 129;
 const MOST: u64 = 18446744073709551615;
 
 // Prints the line of a refused plan.
-fn print_refused(number: u32, place: u32) -> bool {
+fn print_refused(streams: &mut Standard, number: u32, place: u32) -> bool {
     let line = text::refused_line(number, place);
     let text = line.text;
     let len = line.len;
-    console::print(b"lampcheck", &text[..len])
+    console::print(streams, b"lampcheck", &text[..len])
 }
 
 // Prints the line of n pilots and their lights; false where it was not written.
-fn print_lights(list: &[u16; PILOTS], lights: &[u8; PILOTS], n: u32) -> bool {
+fn print_lights(
+    streams: &mut Standard,
+    list: &[u16; PILOTS],
+    lights: &[u8; PILOTS],
+    n: u32,
+) -> bool {
     let line = lampreport::lamp_line(list, lights, n);
     let text = line.text;
     let len = line.len;
-    console::print(b"lampcheck", &text[..len])
+    console::print(streams, b"lampcheck", &text[..len])
 }
 
 // The lamp hears a symbol; false where its line was not written, and where it refused.
-fn hear(plan: &[u8], list: &[u16; PILOTS], symbol: &[u8], counts: &mut [u8]) -> bool {
+fn hear(
+    streams: &mut Standard,
+    plan: &[u8],
+    list: &[u16; PILOTS],
+    symbol: &[u8],
+    counts: &mut [u8],
+) -> bool {
     let mut lights = [0u8; PILOTS];
     match bytelamp::lamp(plan, symbol, counts, &mut lights) {
         CountAnswer::Refused(number, place) => {
-            print_refused(number, place);
+            print_refused(streams, number, place);
             false
         }
-        CountAnswer::Count(n) => print_lights(list, &lights, n),
+        CountAnswer::Count(n) => print_lights(streams, list, &lights, n),
     }
 }
 
 // Tells where the input ended, after so many bytes of a symbol.
-fn tell_ended(first: bool, bytes: usize) {
+fn tell_ended(streams: &mut Standard, first: bool, bytes: usize) {
     if 0 < bytes {
         console::tell(
+            streams,
             b"lampcheck",
             b": the input ends within a symbol, which has 8192 bytes\n",
         );
@@ -56,6 +68,7 @@ fn tell_ended(first: bool, bytes: usize) {
     }
     if first {
         console::tell(
+            streams,
             b"lampcheck",
             b": no symbol on standard input, 8192 bytes each\n",
         );
@@ -63,28 +76,34 @@ fn tell_ended(first: bool, bytes: usize) {
 }
 
 // Reads a symbol and has the lamp hear it; false where there is no more to do.
-fn next_symbol(plan: &[u8], list: &[u16; PILOTS], first: bool, counts: &mut [u8]) -> bool {
+fn next_symbol(
+    streams: &mut Standard,
+    plan: &[u8],
+    list: &[u16; PILOTS],
+    first: bool,
+    counts: &mut [u8],
+) -> bool {
     let mut symbol = [0u8; SYMBOL];
-    match console::read(&mut symbol) {
+    match console::read(streams, &mut symbol) {
         Input::Failed => {
-            console::tell_unread(b"lampcheck");
+            console::tell_unread(streams, b"lampcheck");
             false
         }
         Input::Bytes(n) => {
             if n == SYMBOL {
-                return hear(plan, list, &symbol, counts);
+                return hear(streams, plan, list, &symbol, counts);
             }
-            tell_ended(first, n);
+            tell_ended(streams, first, n);
             false
         }
     }
 }
 
 // Has the lamp hear one symbol after the other.
-fn hear_input(plan: &[u8], list: &[u16; PILOTS], counts: &mut [u8]) {
+fn hear_input(streams: &mut Standard, plan: &[u8], list: &[u16; PILOTS], counts: &mut [u8]) {
     let mut left: u64 = MOST;
     while 0 < left {
-        if !next_symbol(plan, list, left == MOST, counts) {
+        if !next_symbol(streams, plan, list, left == MOST, counts) {
             return;
         }
         left -= 1;
@@ -92,39 +111,45 @@ fn hear_input(plan: &[u8], list: &[u16; PILOTS], counts: &mut [u8]) {
 }
 
 // The lamp of a plan with a fresh record; the line of a refused plan.
-fn check_plan(plan: &[u8]) {
+fn check_plan(streams: &mut Standard, plan: &[u8]) {
     let found = pilots::pilots(plan);
     let answer = found.answer;
     let list = found.list;
     match answer {
         CountAnswer::Refused(number, place) => {
-            print_refused(number, place);
+            print_refused(streams, number, place);
         }
         CountAnswer::Count(n) => {
             let mut counts = [0u8; RECORD];
             let size = console::at_most(n as usize + 1, &counts);
-            hear_input(plan, &list, &mut counts[..size]);
+            hear_input(streams, plan, &list, &mut counts[..size]);
         }
     }
 }
 
 // Reads the plan from the file that the word names.
-fn check_named() {
+fn check_named(rt: &HostRuntime, streams: &mut Standard) {
     let mut buf = io::large_buffer();
-    match arguments::read_file(1, &mut buf) {
+    match arguments::read_file(rt, 1, &mut buf) {
         Input::Failed => {
-            console::tell(b"lampcheck", b": the file of the plan cannot be read\n");
+            console::tell(
+                streams,
+                b"lampcheck",
+                b": the file of the plan cannot be read\n",
+            );
         }
-        Input::Bytes(n) => check_plan(&buf[..n]),
+        Input::Bytes(n) => check_plan(streams, &buf[..n]),
     }
 }
 
-fn main() {
-    if arguments::word_count() == 1 {
-        check_named();
+fn main(rt: HostRuntime) {
+    let mut streams = console::standard(&rt);
+    if arguments::word_count(&rt) == 1 {
+        check_named(&rt, &mut streams);
         return;
     }
     console::tell(
+        &mut streams,
         b"lampcheck",
         b": one word is expected, the name of a file with a plan, as in: lampcheck my.plan\n",
     );

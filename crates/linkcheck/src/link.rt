@@ -1,4 +1,5 @@
 // The link under trial, and what its steps have in common.
+use console::Standard;
 use rules::{EmitterState, ReceiverState};
 
 // The cells of a store, and of a symbol.
@@ -63,9 +64,9 @@ pub(crate) fn count_of(link: Link, input: u32, counts: &[u16; PHASES]) -> usize 
 }
 
 // The link after a difference; the first is printed, as a text with its numbers.
-pub(crate) fn differs(link: Link, text: &[u8], numbers: [u32; 7]) -> Link {
+pub(crate) fn differs(streams: &mut Standard, link: Link, text: &[u8], numbers: [u32; 7]) -> Link {
     if link.right {
-        console::print_line(b"linkcheck", text, numbers);
+        console::print_line(streams, b"linkcheck", text, numbers);
     }
     let mut next = link;
     next.right = false;
@@ -73,11 +74,12 @@ pub(crate) fn differs(link: Link, text: &[u8], numbers: [u32; 7]) -> Link {
 }
 
 // The link after an answer of this code.
-pub(crate) fn answered(link: Link, wanted: u32, got: u32) -> Link {
+pub(crate) fn answered(streams: &mut Standard, link: Link, wanted: u32, got: u32) -> Link {
     if wanted == got {
         return link;
     }
     differs(
+        streams,
         link,
         b"differs phase # symbol # answer # received #\n",
         [link.start, link.t, wanted, got, 0, 0, 0],

@@ -11,7 +11,7 @@ mod link;
 mod receives;
 mod sends;
 
-use console::Input;
+use console::{Input, Standard};
 use link::{Link, PHASES, RIGHT, SENT, STORE, SYMBOL, answered, more, refusal};
 use rules::{CountAnswer, EmitterState, ListenAnswer, ReceiverState, StartAnswer, Verdict};
 
@@ -19,7 +19,13 @@ use rules::{CountAnswer, EmitterState, ListenAnswer, ReceiverState, StartAnswer,
 const LOAD: u8 = 14;
 
 // The link with a fresh receiver and a fresh emitter, if its next symbol is the first of a run.
-fn fresh(link: Link, plan: &[u8], sent: &mut [u16; STORE], heard: &mut [u16; STORE]) -> Link {
+fn fresh(
+    streams: &mut Standard,
+    link: Link,
+    plan: &[u8],
+    sent: &mut [u16; STORE],
+    heard: &mut [u16; STORE],
+) -> Link {
     if link.t != 0 {
         return link;
     }
@@ -41,7 +47,7 @@ fn fresh(link: Link, plan: &[u8], sent: &mut [u16; STORE], heard: &mut [u16; STO
             got = refusal(number);
         }
     }
-    answered(next, SENT, got)
+    answered(streams, next, SENT, got)
 }
 
 // The link with a symbol counted, of which so many cells came out; a run has 2 M + 3 symbols.
@@ -87,13 +93,19 @@ fn one_symbol(
 }
 
 // The link after the runs from all starting phases, or after the symbol with the first difference.
-fn runs(begun: Link, plan: &[u8], profile: &[u8], counts: &[u16; PHASES]) -> Link {
+fn runs(
+    streams: &mut Standard,
+    begun: Link,
+    plan: &[u8],
+    profile: &[u8],
+    counts: &[u16; PHASES],
+) -> Link {
     let mut sent = [0u16; STORE];
     let mut heard = [0u16; STORE];
     let mut link = begun;
     let mut left = (2 * (begun.depth as u64) + 3) * 128;
     while 0 < left {
-        let fresh_link = fresh(link, plan, &mut sent, &mut heard);
+        let fresh_link = fresh(streams, link, plan, &mut sent, &mut heard);
         let next = one_symbol(fresh_link, plan, profile, counts, &mut sent, &mut heard);
         link = next;
         if !link.right {
@@ -134,12 +146,13 @@ fn new_link(plan: &[u8]) -> Link {
 }
 
 // Tries the link under an accepted plan and profile, and prints the line where all was right.
-fn check_link(plan: &[u8], profile: &[u8]) {
+fn check_link(streams: &mut Standard, plan: &[u8], profile: &[u8]) {
     let mut counts = [0u16; PHASES];
     count_all(plan, &mut counts);
-    let link = runs(new_link(plan), plan, profile, &counts);
+    let link = runs(streams, new_link(plan), plan, profile, &counts);
     if link.right {
         console::print_line(
+            streams,
             b"linkcheck",
             b"ok # phases # symbols # cells # flushes # refused\n",
             [
@@ -156,71 +169,74 @@ fn check_link(plan: &[u8], profile: &[u8]) {
 }
 
 // Prints the line of a refused plan or profile.
-fn print_refused(number: u32, place: u32) {
+fn print_refused(streams: &mut Standard, number: u32, place: u32) {
     let line = text::refused_line(number, place);
     let text = line.text;
     let len = line.len;
-    console::print(b"linkcheck", &text[..len]);
+    console::print(streams, b"linkcheck", &text[..len]);
 }
 
 // Judges a profile under an accepted plan, by what filling at phase 0 answers, and tries the link under an accepted one.
-fn check_profile(plan: &[u8], profile: &[u8]) {
+fn check_profile(streams: &mut Standard, plan: &[u8], profile: &[u8]) {
     let mut limits = [0u16; SYMBOL];
     let nd = trials::data_count(plan, 0);
     match limits::put(plan, profile, 0, nd, &mut limits) {
-        CountAnswer::Refused(number, place) => print_refused(number, place),
-        CountAnswer::Count(_) => check_link(plan, profile),
+        CountAnswer::Refused(number, place) => print_refused(streams, number, place),
+        CountAnswer::Count(_) => check_link(streams, plan, profile),
     }
 }
 
 // Judges a plan, and tries the link under an accepted one.
-fn check_plan(plan: &[u8], profile: &[u8]) {
+fn check_plan(streams: &mut Standard, plan: &[u8], profile: &[u8]) {
     match judge::judge(plan) {
-        Verdict::Refused(number, place) => print_refused(number, place),
-        Verdict::Accepted(_) => check_profile(plan, profile),
+        Verdict::Refused(number, place) => print_refused(streams, number, place),
+        Verdict::Accepted(_) => check_profile(streams, plan, profile),
     }
 }
 
 // Reads the plan, and tries it with a profile.
-fn check_input(profile: &[u8]) {
+fn check_input(streams: &mut Standard, profile: &[u8]) {
     let mut buf = io::large_buffer();
-    match console::read(&mut buf) {
-        Input::Failed => console::tell_unread(b"linkcheck"),
+    match console::read(streams, &mut buf) {
+        Input::Failed => console::tell_unread(streams, b"linkcheck"),
         Input::Bytes(n) => {
-            check_plan(&buf[..n], profile);
+            check_plan(streams, &buf[..n], profile);
             if n == 65536 {
-                console::read_on(&mut buf);
+                console::read_on(streams, &mut buf);
             }
         }
     }
 }
 
 // Reads the profile from the file that the first word names: one byte more than a profile has, to see that a file is too long.
-fn check_named() {
+fn check_named(rt: &HostRuntime, streams: &mut Standard) {
     let mut profile = [0u8; 4097];
-    match arguments::read_file(1, &mut profile) {
+    match arguments::read_file(rt, 1, &mut profile) {
         Input::Failed => {
             console::tell(
+                streams,
                 b"linkcheck",
                 b": the file of the load profile cannot be read\n",
             );
         }
-        Input::Bytes(n) => check_input(&profile[..n]),
+        Input::Bytes(n) => check_input(streams, &profile[..n]),
     }
 }
 
 // Tells which word is expected.
-fn tell_expected() {
+fn tell_expected(streams: &mut Standard) {
     console::tell(
+        streams,
         b"linkcheck",
         b": at most one word is expected, the name of a file with a load profile, as in: linkcheck my.loads\n",
     );
 }
 
-fn main() {
-    match arguments::word_count() {
-        0 => check_input(&[LOAD; SYMBOL]),
-        1 => check_named(),
-        _ => tell_expected(),
+fn main(rt: HostRuntime) {
+    let mut streams = console::standard(&rt);
+    match arguments::word_count(&rt) {
+        0 => check_input(&mut streams, &[LOAD; SYMBOL]),
+        1 => check_named(&rt, &mut streams),
+        _ => tell_expected(&mut streams),
     }
 }

@@ -8,6 +8,7 @@
 
 ghost use Rattle.std.specs.Prelude.{◌≤◌};
 
+use console::Standard;
 use modulator::ModulateAnswer;
 
 // The cells of the room for a symbol, as many as of the loads and of the sign bytes; and the numbers of the room for a modulator symbol.
@@ -129,14 +130,16 @@ fn answer_of(head: &[u8; 44], out: &mut [f32]) -> ModulateAnswer {
 }
 
 // The line of a case; false where it was not written.
-fn print_answer(answer: ModulateAnswer, sum: u32) -> bool {
+fn print_answer(streams: &mut Standard, answer: ModulateAnswer, sum: u32) -> bool {
     match answer {
         ModulateAnswer::Modulated => console::print_line(
+            streams,
             b"modulatecases",
             b"0 0 0 #\n",
             [sum, 0, 0, 0, 0, 0, 0],
         ),
         ModulateAnswer::Refused(number, place, subcarrier) => console::print_line(
+            streams,
             b"modulatecases",
             b"# # # #\n",
             [number, place, subcarrier, sum, 0, 0, 0],
@@ -145,21 +148,22 @@ fn print_answer(answer: ModulateAnswer, sum: u32) -> bool {
 }
 
 // One case; false where the input has ended, or this case was not read or not printed.
-fn one_case(out: &mut [f32]) -> bool {
+fn one_case(streams: &mut Standard, out: &mut [f32]) -> bool {
     let mut head = [0u8; 44];
-    if !console::fill(b"modulatecases", &mut head) {
+    if !console::fill(streams, b"modulatecases", &mut head) {
         return false;
     }
     let answer = answer_of(&head, out);
-    print_answer(answer, sums::mixed_singles(0, out))
+    print_answer(streams, answer, sums::mixed_singles(0, out))
 }
 
 // The lines of up to 1000 cases.
-fn main() {
+fn main(rt: HostRuntime) {
+    let mut streams = console::standard(&rt);
     let mut out = [0.75f32; NUMBERS];
     let mut left: u32 = 1000;
     while 0 < left {
-        if !one_case(&mut out) {
+        if !one_case(&mut streams, &mut out) {
             return;
         }
         left -= 1;

@@ -3,24 +3,25 @@
 // A longer input than any plan is read on, up to 64 MiB, so that its writer can finish.
 #![tactic(auto)]
 
-use console::Input;
+use console::{Input, Standard};
 
 // Prints the line of a plan.
-fn print_plan(plan: &[u8]) {
+fn print_plan(streams: &mut Standard, plan: &[u8]) {
     let line = report::plan_line(plan);
     let text = line.text;
     let len = line.len;
-    console::print(b"plancheck", &text[..len]);
+    console::print(streams, b"plancheck", &text[..len]);
 }
 
-fn main() {
+fn main(rt: HostRuntime) {
+    let mut streams = console::standard(&rt);
     let mut buf = io::large_buffer();
-    match console::read(&mut buf) {
-        Input::Failed => console::tell_unread(b"plancheck"),
+    match console::read(&mut streams, &mut buf) {
+        Input::Failed => console::tell_unread(&mut streams, b"plancheck"),
         Input::Bytes(n) => {
-            print_plan(&buf[..n]);
+            print_plan(&mut streams, &buf[..n]);
             if n == 65536 {
-                console::read_on(&mut buf);
+                console::read_on(&mut streams, &mut buf);
             }
         }
     }

@@ -4,6 +4,7 @@
 // line for the cells 32766 to 32775, 65535, 0 and 1 with either sign bit.
 #![tactic(auto)]
 
+use console::Standard;
 use modulator::{LineAnswer, OnLine};
 use points::PointAnswer;
 use scaling::{RootAnswer, ScaledAnswer, ScaledPoint};
@@ -149,12 +150,13 @@ fn all_lines(load: u32) -> u32 {
 }
 
 // The line of a load; false where it was not written.
-fn print_load(load: u32) -> bool {
+fn print_load(streams: &mut Standard, load: u32) -> bool {
     let points = all_points(load);
     let scaled = all_scaled(load);
     let values = all_values(load);
     let lines = all_lines(load);
     console::print_line(
+        streams,
         b"pointcases",
         b"# # # # #\n",
         [load, points, scaled, values, lines, 0, 0],
@@ -166,10 +168,11 @@ const LOADS: [u32; 20] = [
     0, 1, 2, 3, 4, 5, 6, 7, 8, 9, 10, 11, 12, 13, 14, 15, 16, 262, 65542, 4294967295,
 ];
 
-fn main() {
+fn main(rt: HostRuntime) {
+    let mut streams = console::standard(&rt);
     let mut i: usize = 0;
     while i < 20 {
-        if !print_load(LOADS[i]) {
+        if !print_load(&mut streams, LOADS[i]) {
             return;
         }
         i += 1;

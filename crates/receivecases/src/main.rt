@@ -6,6 +6,7 @@
 // many cells the store needs and the number of acts; then the plan, and the acts. tests/receives.py says what the acts are and makes stdin and stdout.
 #![tactic(auto)]
 
+use console::Standard;
 use rules::{EmitterState, ListenAnswer, ReceiveAnswer, ReceiverState, SendAnswer, StartAnswer};
 use trials::{Receiving, Sending};
 
@@ -85,9 +86,9 @@ fn send(
 }
 
 // Act 3, with its seven numbers from standard input.
-fn given_act() -> Act {
+fn given_act(streams: &mut Standard) -> Act {
     let mut bytes = [0u8; 28];
-    let read = console::fill(b"receivecases", &mut bytes);
+    let read = console::fill(streams, b"receivecases", &mut bytes);
     Act {
         read,
         act: 3,
@@ -102,12 +103,12 @@ fn given_act() -> Act {
 }
 
 // The next act of standard input; those other than 3 are given what is right.
-fn next_act() -> Act {
+fn next_act(streams: &mut Standard) -> Act {
     let mut one = [0u8; 1];
-    let read = console::fill(b"receivecases", &mut one);
+    let read = console::fill(streams, b"receivecases", &mut one);
     let act = one[0];
     if read && act == 3 {
-        return given_act();
+        return given_act(streams);
     }
     Act {
         read,
@@ -187,6 +188,7 @@ fn receive(
 
 // The run after so many acts, or up to the one that could not be read.
 fn acts(
+    streams: &mut Standard,
     begun: Run,
     count: u32,
     plan: &[u8],
@@ -199,7 +201,7 @@ fn acts(
     let mut run = begun;
     let mut left = count;
     while 0 < left {
-        let given = next_act();
+        let given = next_act(streams);
         if !given.read {
             run.read = false;
             return run;
@@ -240,6 +242,7 @@ fn fresh_emitter(plan: &[u8], phase: u32, store: &mut [u16; STORE]) -> EmitterSt
 
 // The run of a case from its fresh start on, with the store in the checksum.
 fn started(
+    streams: &mut Standard,
     receiver: ReceiverState,
     sum: u32,
     plan: &[u8],
@@ -257,17 +260,18 @@ fn started(
         handed: 0,
         refused: 0,
     };
-    let mut run = acts(begun, count, plan, &mut sent, store);
+    let mut run = acts(streams, begun, count, plan, &mut sent, store);
     run.sum = sums::mixed_cells(run.sum, store, STORE);
     run
 }
 
 // The line of a case; none where it could not be read whole.
-fn print_run(run: Run) -> bool {
+fn print_run(streams: &mut Standard, run: Run) -> bool {
     if !run.read {
         return false;
     }
     console::print_line(
+        streams,
         b"receivecases",
         b"# # # #\n",
         [run.warmed, run.handed, run.refused, run.sum, 0, 0, 0],
@@ -275,37 +279,45 @@ fn print_run(run: Run) -> bool {
 }
 
 // A case whose plan is read: the fresh starts, then the acts, and its line.
-fn start(plan: &[u8], phase: u32, need: u32, count: u32, store: &mut [u16; STORE]) -> bool {
+fn start(
+    streams: &mut Standard,
+    plan: &[u8],
+    phase: u32,
+    need: u32,
+    count: u32,
+    store: &mut [u16; STORE],
+) -> bool {
     let tight = mixed_tight(plan, phase, need, store);
     let answer = trials::fresh_receiver(plan, phase, STORE, store);
     let sum = sums::mixed_listen(tight, answer);
     match answer {
         ListenAnswer::Refused(number, place) => console::print_refused(
+            streams,
             b"receivecases",
             number,
             place,
             sums::mixed_cells(sum, store, STORE),
         ),
         ListenAnswer::Started(state) => {
-            let run = started(state, sum, plan, count, store);
-            print_run(run)
+            let run = started(streams, state, sum, plan, count, store);
+            print_run(streams, run)
         }
     }
 }
 
 // Reads a plan of this length and tries it; false where the case could not be read whole or its line was not written.
-fn try_case(plan: &mut [u8], phase: u32, need: u32, count: u32) -> bool {
-    if !console::fill(b"receivecases", plan) {
+fn try_case(streams: &mut Standard, plan: &mut [u8], phase: u32, need: u32, count: u32) -> bool {
+    if !console::fill(streams, b"receivecases", plan) {
         return false;
     }
     let mut store = [BEFORE; STORE];
-    start(plan, phase, need, count, &mut store)
+    start(streams, plan, phase, need, count, &mut store)
 }
 
 // One case; false where the input has ended, or this case was not read or not printed.
-fn one_case() -> bool {
+fn one_case(streams: &mut Standard) -> bool {
     let mut head = [0u8; 16];
-    if !console::fill(b"receivecases", &mut head) {
+    if !console::fill(streams, b"receivecases", &mut head) {
         return false;
     }
     let length = console::number_at(&head, 0);
@@ -314,14 +326,15 @@ fn one_case() -> bool {
     let count = console::number_at(&head, 3);
     let mut buf = io::large_buffer();
     let n = console::at_most(length as usize, &buf);
-    try_case(&mut buf[..n], phase, need, count)
+    try_case(streams, &mut buf[..n], phase, need, count)
 }
 
 // The lines of up to 1000 cases.
-fn main() {
+fn main(rt: HostRuntime) {
+    let mut streams = console::standard(&rt);
     let mut left: u32 = 1000;
     while 0 < left {
-        if !one_case() {
+        if !one_case(&mut streams) {
             return;
         }
         left -= 1;

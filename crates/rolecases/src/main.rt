@@ -7,6 +7,7 @@
 
 ghost use Rattle.std.specs.Prelude.{◌<◌};
 
+use console::Standard;
 use rules::{Role, RoleAnswer};
 
 // The kind of a role, in the order of the line.
@@ -68,24 +69,29 @@ fn tally_of(plan: &[u8], phase: u32) -> [u32; 7] {
 }
 
 // Reads a plan of this length and prints the line of its roles; false where it could not be read whole or its line was not written.
-fn ask_case(plan: &mut [u8], phase: u32) -> bool {
-    if !console::fill(b"rolecases", plan) {
+fn ask_case(streams: &mut Standard, plan: &mut [u8], phase: u32) -> bool {
+    if !console::fill(streams, b"rolecases", plan) {
         return false;
     }
-    console::print_line(b"rolecases", b"# # # # # # #\n", tally_of(plan, phase))
+    console::print_line(
+        streams,
+        b"rolecases",
+        b"# # # # # # #\n",
+        tally_of(plan, phase),
+    )
 }
 
 // One case; false where the input has ended, or this case was not read or not printed.
-fn one_case() -> bool {
+fn one_case(streams: &mut Standard) -> bool {
     let mut head = [0u8; 8];
-    if !console::fill(b"rolecases", &mut head) {
+    if !console::fill(streams, b"rolecases", &mut head) {
         return false;
     }
     let length = console::number_at(&head, 0);
     let phase = console::number_at(&head, 1);
     let mut buf = io::large_buffer();
     let n = console::at_most(length as usize, &buf);
-    ask_case(&mut buf[..n], phase)
+    ask_case(streams, &mut buf[..n], phase)
 }
 
 // The checksum of the predefined pilots of every L.
@@ -102,13 +108,19 @@ fn all_pilots() -> u32 {
 }
 
 // The line of the pilots, then the lines of up to 1000 cases.
-fn main() {
-    if !console::print_line(b"rolecases", b"#\n", [all_pilots(), 0, 0, 0, 0, 0, 0]) {
+fn main(rt: HostRuntime) {
+    let mut streams = console::standard(&rt);
+    if !console::print_line(
+        &mut streams,
+        b"rolecases",
+        b"#\n",
+        [all_pilots(), 0, 0, 0, 0, 0, 0],
+    ) {
         return;
     }
     let mut left: u32 = 1000;
     while 0 < left {
-        if !one_case() {
+        if !one_case(&mut streams) {
             return;
         }
         left -= 1;

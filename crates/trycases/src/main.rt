@@ -1,35 +1,37 @@
 // Tries the ranges of the executed cases and prints a line for each, as trycheck does. Standard input holds, for each case, the plan's
 // length as four bytes, the first and the last number of the range as two bytes each, high byte first, and then the plan. tests/tries.py
 // makes stdin and stdout from the second model.
-
-// The number of two bytes, high byte first.
 #![tactic(auto)]
 
+use console::Standard;
+
+// The number of two bytes, high byte first.
 fn number_of(high: u8, low: u8) -> u16 {
     (high as u16) * 256 + low as u16
 }
 
 // Reads a plan of this length, tries the range and prints its line; false where it could not be read whole or its line was not written.
-fn try_case(plan: &mut [u8], first: u16, last: u16) -> bool {
-    if !console::fill(b"trycases", plan) {
+fn try_case(streams: &mut Standard, plan: &mut [u8], first: u16, last: u16) -> bool {
+    if !console::fill(streams, b"trycases", plan) {
         return false;
     }
     let line = tryreport::try_line(plan, first, last);
     let text = line.text;
     let size = line.len;
-    console::print(b"trycases", &text[..size])
+    console::print(streams, b"trycases", &text[..size])
 }
 
 // One case; false where the input has ended, or this case was not read or not printed.
-fn one_case() -> bool {
+fn one_case(streams: &mut Standard) -> bool {
     let mut head = [0u8; 8];
-    if !console::fill(b"trycases", &mut head) {
+    if !console::fill(streams, b"trycases", &mut head) {
         return false;
     }
     let length = console::number_at(&head, 0);
     let mut buf = io::large_buffer();
     let n = console::at_most(length as usize, &buf);
     try_case(
+        streams,
         &mut buf[..n],
         number_of(head[4], head[5]),
         number_of(head[6], head[7]),
@@ -37,10 +39,11 @@ fn one_case() -> bool {
 }
 
 // The lines of up to 10,000 cases.
-fn main() {
+fn main(rt: HostRuntime) {
+    let mut streams = console::standard(&rt);
     let mut left: u32 = 10000;
     while 0 < left {
-        if !one_case() {
+        if !one_case(&mut streams) {
             return;
         }
         left -= 1;

@@ -4,7 +4,7 @@
 // plancheck.
 #![tactic(auto)]
 
-use console::Input;
+use console::{Input, Standard};
 use words::Word;
 
 // The subcarrier and the phase that are asked about where no words are given.
@@ -16,60 +16,62 @@ const PHASE: u32 = 0;
 const MOST: u32 = 4294967295;
 
 // Prints the line of a subcarrier at a phase of a plan.
-fn print_why(plan: &[u8], subcarrier: u32, phase: u32) {
+fn print_why(streams: &mut Standard, plan: &[u8], subcarrier: u32, phase: u32) {
     let line = whyreport::why_line(plan, subcarrier, phase);
     let text = line.text;
     let len = line.len;
-    console::print(b"whycheck", &text[..len]);
+    console::print(streams, b"whycheck", &text[..len]);
 }
 
 // Reads the plan and prints the line.
-fn why_input(subcarrier: u32, phase: u32) {
+fn why_input(streams: &mut Standard, subcarrier: u32, phase: u32) {
     let mut buf = io::large_buffer();
-    match console::read(&mut buf) {
-        Input::Failed => console::tell_unread(b"whycheck"),
+    match console::read(streams, &mut buf) {
+        Input::Failed => console::tell_unread(streams, b"whycheck"),
         Input::Bytes(n) => {
-            print_why(&buf[..n], subcarrier, phase);
+            print_why(streams, &buf[..n], subcarrier, phase);
             if n == 65536 {
-                console::read_on(&mut buf);
+                console::read_on(streams, &mut buf);
             }
         }
     }
 }
 
 // Tells which words are expected.
-fn tell_expected() {
+fn tell_expected(streams: &mut Standard) {
     console::tell(
+        streams,
         b"whycheck",
         b": no words or two are expected, a subcarrier and a phase, each a number from 0 to 4294967295 in digits, as in: whycheck 948 0\n",
     );
 }
 
 // The subcarrier, at the phase that the second word spells.
-fn why_second(subcarrier: u32) {
-    match arguments::number_word(2, MOST) {
-        Word::Malformed => tell_expected(),
-        Word::Number(phase) => why_input(subcarrier, phase),
+fn why_second(rt: &HostRuntime, streams: &mut Standard, subcarrier: u32) {
+    match arguments::number_word(rt, 2, MOST) {
+        Word::Malformed => tell_expected(streams),
+        Word::Number(phase) => why_input(streams, subcarrier, phase),
     }
 }
 
 // The subcarrier and the phase of two words.
-fn why_words() {
-    match arguments::number_word(1, MOST) {
-        Word::Malformed => tell_expected(),
-        Word::Number(subcarrier) => why_second(subcarrier),
+fn why_words(rt: &HostRuntime, streams: &mut Standard) {
+    match arguments::number_word(rt, 1, MOST) {
+        Word::Malformed => tell_expected(streams),
+        Word::Number(subcarrier) => why_second(rt, streams, subcarrier),
     }
 }
 
-fn main() {
-    let count = arguments::word_count();
+fn main(rt: HostRuntime) {
+    let mut streams = console::standard(&rt);
+    let count = arguments::word_count(&rt);
     if count == 0 {
-        why_input(SUBCARRIER, PHASE);
+        why_input(&mut streams, SUBCARRIER, PHASE);
         return;
     }
     if count != 2 {
-        tell_expected();
+        tell_expected(&mut streams);
         return;
     }
-    why_words();
+    why_words(&rt, &mut streams);
 }
