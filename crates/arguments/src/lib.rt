@@ -22,14 +22,12 @@ fn is_given<R: Env>(rt: &R, i: usize) -> bool {
 
 // How many words the program was given, its own name left out.
 pub fn word_count<R: Env>(rt: &R) -> usize {
-    let mut count = 0;
-    while count < usize::MAX {
+    for count in 0..usize::MAX {
         if !is_given(rt, count + 1) {
             return count;
         }
-        count += 1;
     }
-    count
+    usize::MAX
 }
 
 // The number up to `most` that word i spells, counted from 1. A word that is missing or longer than 64 bytes is malformed, like one that is
@@ -44,7 +42,7 @@ pub fn number_word<R: Env>(rt: &R, i: usize, most: u32) -> Word
     }
 }
 
-// The same of a file that is named in text.
+// Reads the file of this name until the bytes are full or the file ends.
 fn read_named<R: Files>(rt: &R, name: &str, bytes: &mut [u8]) -> Input
     ensures { Holds result bytes.new }
 {
@@ -57,7 +55,7 @@ fn read_named<R: Files>(rt: &R, name: &str, bytes: &mut [u8]) -> Input
     }
 }
 
-// The same of a file that is named in bytes, which no file is where they are no text.
+// The same where the name is bytes: those that are no text name no file.
 fn read_path<R: Files>(rt: &R, path: &[u8], bytes: &mut [u8]) -> Input
     ensures { Holds result bytes.new }
 {

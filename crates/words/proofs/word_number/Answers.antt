@@ -1,10 +1,8 @@
 -- `words::word_number` meets its contract. The loop's invariant, `Reading`: `value` is not above `most`, and what the word says follows
 -- from `value` and the bytes left. Assumes nothing.
-use Prim.Native.Nat.{◌-◌}
 use mathlib.Core.Path.{◌≡◌, sym, ◌∙◌}
 use mathlib.Core.Bool.{true}
 use native.Mathlib.Omega.{arith}
-use borrow.Author.Tests.{not-true, not-false}
 use lib.ListN.{get_or}
 use Rattle.words.specs.Word.{is_digit}
 use Rattle.words.proofs.Words.{empty_word, reading_none, reading_all, reading_other, reading_above, reading_on, digit_least}
@@ -13,7 +11,7 @@ use Rattle.words.proofs.word_number.Goals.{Else-not-is_digit}
 
 -- where the byte has been tried, it is a digit
 tried : (c : Else-not-is_digit) → is_digit (get_or c.args.word.now c.loop-i.i 0) ≡ true
-tried c = sym c.is_digit.ensures ∙ not-false c.is_digit.result c.if-not-is_digit.false
+tried c = sym c.is_digit.ensures ∙ c.if-not-is_digit.false
 
 pub returns-then-word-eq0 : goal.returns-then-word-eq0
 returns-then-word-eq0 c = empty_word _ _ c.if-word-eq0.true
@@ -23,7 +21,7 @@ loop-i-init c = reading_none _ _ (omega arith)
 
 pub returns-then-not-is_digit : goal.returns-then-not-is_digit
 returns-then-not-is_digit c =
-    let t = sym c.is_digit.ensures ∙ not-true c.is_digit.result c.if-not-is_digit.true in
+    let t = sym c.is_digit.ensures ∙ c.if-not-is_digit.true in
     reading_other c.loop-i.invariant c.loop-i-test.true t
 
 pub with_digit-next-requires : goal.with_digit-next-requires
