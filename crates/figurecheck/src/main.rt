@@ -58,6 +58,7 @@ fn counted(pair: Pair) -> Pair {
 
 // The pair after the two steps of a symbol: a wrong one, and the right one.
 fn one_symbol(
+    streams: &mut Standard,
     pair: Pair,
     plan: &[u8],
     first: &mut [u16; STORE],
@@ -65,8 +66,8 @@ fn one_symbol(
 ) -> Pair {
     let sum = std::num::wrapping_add_u32(pair.start, pair.t);
     let nd = trials::data_count(plan, sum % 128);
-    let tried = steps::step(pair, sum % 6, nd, plan, first, second);
-    counted(steps::step(tried, steps::RIGHT, nd, plan, first, second))
+    let tried = steps::step(streams, pair, sum % 6, nd, plan, first, second);
+    counted(steps::step(streams, tried, steps::RIGHT, nd, plan, first, second))
 }
 
 // The pair after the runs from all starting phases, or after the symbol with the first difference.
@@ -77,7 +78,7 @@ fn runs(streams: &mut Standard, begun: Pair, plan: &[u8]) -> Pair {
     let mut left = (2 * (begun.depth as u64) + 3) * 128;
     while 0 < left {
         let fresh_pair = fresh(streams, pair, plan, &mut first, &mut second);
-        let next = one_symbol(fresh_pair, plan, &mut first, &mut second);
+        let next = one_symbol(streams, fresh_pair, plan, &mut first, &mut second);
         pair = next;
         if !pair.same {
             return pair;

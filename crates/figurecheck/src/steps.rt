@@ -1,5 +1,6 @@
 // The steps of figurecheck, each given to both emitters: before each right one a wrong one, which both have to refuse.
 use crate::pair::{Pair, SENT, STORE, SYMBOL, answered, compared, step_of};
+use console::Standard;
 use trials::Sending;
 
 // The kind of the right steps; those of the wrong ones are 0 to 5.
@@ -83,6 +84,7 @@ fn fill(pair: Pair, kind: u32, nd: usize, cells: &mut [u16]) {
 
 // The pair after a step of a kind; nd is N_D. Stores that are too short are tried only where one is needed.
 pub(crate) fn step(
+    streams: &mut Standard,
     pair: Pair,
     kind: u32,
     nd: usize,
@@ -110,11 +112,12 @@ pub(crate) fn step(
         &mut second_symbol,
     );
     let next = answered(
+        streams,
         pair,
         code_of(kind),
         second_code_of(kind),
         step_of(one),
         step_of(other),
     );
-    compared(next, &symbol, &second_symbol)
+    compared(streams, next, &symbol, &second_symbol)
 }

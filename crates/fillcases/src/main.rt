@@ -349,7 +349,8 @@ fn try_case(streams: &mut Standard, plan: &mut [u8], head: Head) -> bool {
     if !console::fill(streams, b"fillcases", plan) {
         return false;
     }
-    print_run(streams, ran(streams, plan, head))
+    let run = ran(streams, plan, head);
+    print_run(streams, run)
 }
 
 // One case; false where the input has ended, or this case was not read or not printed.

@@ -69,6 +69,7 @@ fn counted(link: Link, count: usize) -> Link {
 
 // The link after the four steps of a symbol: a wrong send, the right one, a wrong receive, the right one.
 fn one_symbol(
+    streams: &mut Standard,
     link: Link,
     plan: &[u8],
     profile: &[u8],
@@ -83,12 +84,52 @@ fn one_symbol(
     let mut limits = [0u16; SYMBOL];
     let phase = link::phase_of(link, link.t);
     limits::put(plan, profile, phase, nd, &mut limits);
-    let mut next = sends::send(link, kind, nd, plan, profile, &limits, sent, &mut symbol);
-    next = sends::send(next, RIGHT, nd, plan, profile, &limits, sent, &mut symbol);
+    let mut next = sends::send(
+        streams,
+        link,
+        kind,
+        nd,
+        plan,
+        profile,
+        &limits,
+        sent,
+        &mut symbol,
+    );
+    next = sends::send(
+        streams,
+        next,
+        RIGHT,
+        nd,
+        plan,
+        profile,
+        &limits,
+        sent,
+        &mut symbol,
+    );
     let back = link::phase_of(link, due.input);
     limits::put(plan, profile, back, due.count, &mut limits);
-    next = receives::receive(next, kind, due, plan, profile, &limits, heard, &mut symbol);
-    next = receives::receive(next, RIGHT, due, plan, profile, &limits, heard, &mut symbol);
+    next = receives::receive(
+        streams,
+        next,
+        kind,
+        due,
+        plan,
+        profile,
+        &limits,
+        heard,
+        &mut symbol,
+    );
+    next = receives::receive(
+        streams,
+        next,
+        RIGHT,
+        due,
+        plan,
+        profile,
+        &limits,
+        heard,
+        &mut symbol,
+    );
     counted(next, due.count)
 }
 
@@ -106,7 +147,9 @@ fn runs(
     let mut left = (2 * (begun.depth as u64) + 3) * 128;
     while 0 < left {
         let fresh_link = fresh(streams, link, plan, &mut sent, &mut heard);
-        let next = one_symbol(fresh_link, plan, profile, counts, &mut sent, &mut heard);
+        let next = one_symbol(
+            streams, fresh_link, plan, profile, counts, &mut sent, &mut heard,
+        );
         link = next;
         if !link.right {
             return link;

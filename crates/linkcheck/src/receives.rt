@@ -3,6 +3,7 @@ use crate::limits;
 use crate::link::{
     Link, PHASES, RIGHT, STORE, SYMBOL, answered, count_of, differs, less, more, refusal,
 };
+use console::Standard;
 use rules::ReceiveAnswer;
 use trials::Receiving;
 
@@ -102,6 +103,7 @@ fn code_of_data(n: u32, count: usize) -> u32 {
 
 // The link after the data buffer was compared with the first `count` cells of an input symbol.
 fn compared(
+    streams: &mut Standard,
     link: Link,
     input: u32,
     count: usize,
@@ -115,6 +117,7 @@ fn compared(
     let wanted = samples::inputs::wanted(link.start, input, count, limits, at);
     let found = samples::at(cells, at);
     differs(
+        streams,
         link,
         b"differs phase # symbol # cell # sent # received #\n",
         [
@@ -132,6 +135,7 @@ fn compared(
 // The link after a receive with this answer: a wrong one leaves the data buffer as it was. A state other than the link's own, which the
 // kinds 0 to 2 are given, is not taken back.
 fn told(
+    streams: &mut Standard,
     link: Link,
     kind: u32,
     due: Due,
@@ -157,16 +161,17 @@ fn told(
             }
         }
     }
-    let judged = answered(next, code_of(kind, due), got);
+    let judged = answered(streams, next, code_of(kind, due), got);
     if kind == RIGHT {
-        return compared(judged, due.input, due.count, limits, cells);
+        return compared(streams, judged, due.input, due.count, limits, cells);
     }
-    compared(judged, link.t, 0, limits, cells)
+    compared(streams, judged, link.t, 0, limits, cells)
 }
 
 // The link after a receive of a kind, if it is tried; the symbol is spoiled for it, and is then as before. The limits are those of the data
 // cells that are due.
 pub(crate) fn receive(
+    streams: &mut Standard,
     link: Link,
     kind: u32,
     due: Due,
@@ -186,5 +191,5 @@ pub(crate) fn receive(
     let old = samples::swap(symbol, place, cell_of(kind, load));
     let answer = trials::receive(plan, profile, given, store, symbol, &mut cells);
     samples::swap(symbol, place, old);
-    told(link, kind, due, answer, limits, &cells)
+    told(streams, link, kind, due, answer, limits, &cells)
 }

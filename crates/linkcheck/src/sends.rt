@@ -1,5 +1,6 @@
 // The sends of linkcheck: before each right one a wrong one, which has to be refused.
 use crate::link::{Link, RIGHT, SENT, STORE, SYMBOL, answered, less, more, refusal};
+use console::Standard;
 use rules::SendAnswer;
 use trials::Sending;
 
@@ -62,7 +63,7 @@ fn code_of(kind: u32) -> u32 {
 }
 
 // The link after a send with this answer. A state other than the link's own, which the kinds 3 and 4 are given, is not taken back.
-fn told(link: Link, kind: u32, answer: SendAnswer) -> Link {
+fn told(streams: &mut Standard, link: Link, kind: u32, answer: SendAnswer) -> Link {
     let mut next = link;
     let mut got = SENT;
     match answer {
@@ -77,12 +78,13 @@ fn told(link: Link, kind: u32, answer: SendAnswer) -> Link {
             }
         }
     }
-    answered(next, code_of(kind), got)
+    answered(streams, next, code_of(kind), got)
 }
 
 // The link after a send of a kind; nd is N_D, and the limits are those of its data cells. A store that is too short is tried only where one is
 // needed.
 pub(crate) fn send(
+    streams: &mut Standard,
     link: Link,
     kind: u32,
     nd: usize,
@@ -102,5 +104,5 @@ pub(crate) fn send(
     let place = place_of(kind, nd);
     samples::swap(&mut cells, place, cell_of(kind, samples::at(limits, place)));
     let answer = trials::send(plan, profile, given, store, &cells, symbol);
-    told(link, kind, answer)
+    told(streams, link, kind, answer)
 }
