@@ -2,10 +2,11 @@
 // contract can say what is read or written; those here say how many bytes were read, and which number bytes are.
 #![tactic(auto)]
 
-ghost use Rattle.std.specs.Prelude.{◌≤◌, min, ◌≡◌, length, get_or};
+ghost use Rattle.std.specs.Prelude.{◌≤◌, min, ◌≡◌, length, get_or, take, IsTrue};
+ghost use Rattle.std.specs.Io.KnownBytes.{Consumes, Appends};
 ghost use Rattle.io.specs.Counts.{IsPrefixLen};
 ghost use Rattle.console.specs.Number.{number, number_at};
-ghost use Rattle.console.specs.Reading.{Holds, HoldsFrom};
+ghost use Rattle.console.specs.Reading.{Holds, HoldsFrom, Takes, TakesFrom};
 
 use std::io::{Read, Stderr, Stdin, Stdout, Write};
 
@@ -39,7 +40,9 @@ pub enum Input {
 // moves a byte has failed.
 fn read_from<R: Read>(reader: &mut R, bytes: &mut [u8], from: usize) -> Input
     requires { from ≤ length bytes.old }
-    ensures { HoldsFrom from result bytes.new }
+    ensures holds { HoldsFrom from result bytes.new }
+    ensures before { take from bytes.new ≡ take from bytes.old }
+    ensures takes { TakesFrom (R.remaining reader.old) (R.remaining reader.new) from result bytes.new }
 {
     match reader.read(&mut bytes[from..]) {
         Ok(n) => Input::Bytes(n),
@@ -49,7 +52,8 @@ fn read_from<R: Read>(reader: &mut R, bytes: &mut [u8], from: usize) -> Input
 
 // Reads until the bytes are full, the input ends or a read fails.
 pub fn read_open<R: Read>(reader: &mut R, bytes: &mut [u8]) -> Input
-    ensures { Holds result bytes.new }
+    ensures holds { Holds result bytes.new }
+    ensures takes { Takes (R.remaining reader.old) (R.remaining reader.new) result bytes.new }
 {
     let mut done = 0;
     while done < bytes.len() {
@@ -68,7 +72,8 @@ pub fn read_open<R: Read>(reader: &mut R, bytes: &mut [u8]) -> Input
 
 // The same of a program's input.
 pub fn read<I: Read, O, E>(streams: &mut Streams<I, O, E>, bytes: &mut [u8]) -> Input
-    ensures { Holds result bytes.new }
+    ensures holds { Holds result bytes.new }
+    ensures takes { Takes (I.remaining streams.old.input) (I.remaining streams.new.input) result bytes.new }
 {
     read_open(&mut streams.input, bytes)
 }
@@ -89,7 +94,9 @@ pub fn fill<I: Read, O, E: Write>(
     streams: &mut Streams<I, O, E>,
     program: &[u8],
     bytes: &mut [u8],
-) -> bool {
+) -> bool
+    ensures { IsTrue result → Consumes (I.remaining streams.old.input) (I.remaining streams.new.input) bytes.new }
+{
     match read(streams, bytes) {
         Input::Bytes(n) => n == bytes.len(),
         Input::Failed => {
@@ -164,7 +171,9 @@ pub fn print<I, O: Write, E: Write>(
     streams: &mut Streams<I, O, E>,
     program: &[u8],
     bytes: &[u8],
-) -> bool {
+) -> bool
+    ensures { IsTrue result → Appends (O.contents streams.old.output) (O.contents streams.new.output) bytes.now }
+{
     match streams.output.write_all(bytes) {
         Ok(()) => true,
         Err(_) => {
