@@ -1,6 +1,6 @@
 // The calls for a C host, numbers and buffers of bytes or single-precision numbers only: include/headend.h, docs/C-HOST.md. Each is thin:
 // it tries the length of the answer buffer, calls the proved entry over plan bytes or two-byte cells, and has crates answers and
-// answerbytes lay its answer out in the buffer.
+// answerbytes lay its answer out in the buffer. Crate headend_c exports them under the same names.
 #![tactic(auto)]
 
 ghost use Rattle.std.specs.Prelude.{◌≡◌};
@@ -13,8 +13,7 @@ use rules::{EmitterState, ReceiverState};
 const ANSWER: usize = 16;
 
 // Judges a plan.
-#[unsafe(no_mangle)]
-pub extern "C" fn headend_judge(plan: &[u8], answer: &mut [u8]) -> u32
+pub fn headend_judge(plan: &[u8], answer: &mut [u8]) -> u32
     ensures { says result answer.new ≡ judge_call khz50 plan.now answer.old }
 {
     if answer.len() < ANSWER {
@@ -24,8 +23,7 @@ pub extern "C" fn headend_judge(plan: &[u8], answer: &mut [u8]) -> u32
 }
 
 // What one more excluded range would do to a plan.
-#[unsafe(no_mangle)]
-pub extern "C" fn headend_try(plan: &[u8], first: u32, last: u32, answer: &mut [u8]) -> u32
+pub fn headend_try(plan: &[u8], first: u32, last: u32, answer: &mut [u8]) -> u32
     ensures { says result answer.new ≡ try_call khz50 plan.now first last answer.old }
 {
     if answer.len() < ANSWER {
@@ -38,8 +36,7 @@ pub extern "C" fn headend_try(plan: &[u8], first: u32, last: u32, answer: &mut [
 }
 
 // The role of a subcarrier at a phase.
-#[unsafe(no_mangle)]
-pub extern "C" fn headend_role(plan: &[u8], subcarrier: u32, phase: u32, answer: &mut [u8]) -> u32
+pub fn headend_role(plan: &[u8], subcarrier: u32, phase: u32, answer: &mut [u8]) -> u32
     ensures { says result answer.new ≡ role_call khz50 plan.now subcarrier phase answer.old }
 {
     if answer.len() < ANSWER {
@@ -52,8 +49,7 @@ pub extern "C" fn headend_role(plan: &[u8], subcarrier: u32, phase: u32, answer:
 }
 
 // What a subcarrier is doing at a phase, and why.
-#[unsafe(no_mangle)]
-pub extern "C" fn headend_why(plan: &[u8], subcarrier: u32, phase: u32, answer: &mut [u8]) -> u32
+pub fn headend_why(plan: &[u8], subcarrier: u32, phase: u32, answer: &mut [u8]) -> u32
     ensures { says result answer.new ≡ why_call khz50 plan.now subcarrier phase answer.old }
 {
     if answer.len() < ANSWER {
@@ -63,8 +59,7 @@ pub extern "C" fn headend_why(plan: &[u8], subcarrier: u32, phase: u32, answer: 
 }
 
 // N_D at a phase.
-#[unsafe(no_mangle)]
-pub extern "C" fn headend_data_count(plan: &[u8], phase: u32, answer: &mut [u8]) -> u32
+pub fn headend_data_count(plan: &[u8], phase: u32, answer: &mut [u8]) -> u32
     ensures { says result answer.new ≡ count_call khz50 plan.now phase answer.old }
 {
     if answer.len() < ANSWER {
@@ -74,13 +69,7 @@ pub extern "C" fn headend_data_count(plan: &[u8], phase: u32, answer: &mut [u8])
 }
 
 // Fills a store as a fresh emitter's at a phase.
-#[unsafe(no_mangle)]
-pub extern "C" fn headend_fresh_emitter(
-    plan: &[u8],
-    phase: u32,
-    store: &mut [u8],
-    answer: &mut [u8],
-) -> u32
+pub fn headend_fresh_emitter(plan: &[u8], phase: u32, store: &mut [u8], answer: &mut [u8]) -> u32
     ensures { says_store result store.new answer.new ≡ start_call khz50 plan.now phase store.old answer.old }
 {
     if answer.len() < ANSWER {
@@ -93,13 +82,7 @@ pub extern "C" fn headend_fresh_emitter(
 }
 
 // Fills a store as a fresh receiver's at a phase.
-#[unsafe(no_mangle)]
-pub extern "C" fn headend_fresh_receiver(
-    plan: &[u8],
-    phase: u32,
-    store: &mut [u8],
-    answer: &mut [u8],
-) -> u32
+pub fn headend_fresh_receiver(plan: &[u8], phase: u32, store: &mut [u8], answer: &mut [u8]) -> u32
     ensures { says_store result store.new answer.new ≡ listen_call khz50 plan.now phase store.old answer.old }
 {
     if answer.len() < ANSWER {
@@ -112,8 +95,7 @@ pub extern "C" fn headend_fresh_receiver(
 }
 
 // An emit step.
-#[unsafe(no_mangle)]
-pub extern "C" fn headend_emit(
+pub fn headend_emit(
     plan: &[u8],
     profile: &[u8],
     phase: u32,
@@ -135,8 +117,7 @@ pub extern "C" fn headend_emit(
 }
 
 // A flush step.
-#[unsafe(no_mangle)]
-pub extern "C" fn headend_flush(
+pub fn headend_flush(
     plan: &[u8],
     phase: u32,
     store: &mut [u8],
@@ -156,8 +137,7 @@ pub extern "C" fn headend_flush(
 }
 
 // A receive step.
-#[unsafe(no_mangle)]
-pub extern "C" fn headend_receive(
+pub fn headend_receive(
     plan: &[u8],
     profile: &[u8],
     phase: u32,
@@ -180,8 +160,7 @@ pub extern "C" fn headend_receive(
 }
 
 // Fills a data symbol from a bit stream.
-#[unsafe(no_mangle)]
-pub extern "C" fn headend_fill(
+pub fn headend_fill(
     plan: &[u8],
     profile: &[u8],
     phase: u32,
@@ -202,8 +181,7 @@ pub extern "C" fn headend_fill(
 }
 
 // The way back: puts the bits of a data symbol into a bit stream.
-#[unsafe(no_mangle)]
-pub extern "C" fn headend_unfill(
+pub fn headend_unfill(
     plan: &[u8],
     profile: &[u8],
     phase: u32,
@@ -224,8 +202,7 @@ pub extern "C" fn headend_unfill(
 }
 
 // The continuous pilots of a plan, in the order of the lamp's record.
-#[unsafe(no_mangle)]
-pub extern "C" fn headend_pilots(plan: &[u8], list: &mut [u8], answer: &mut [u8]) -> u32
+pub fn headend_pilots(plan: &[u8], list: &mut [u8], answer: &mut [u8]) -> u32
     ensures { says_fill result list.new answer.new ≡ pilots_call khz50 plan.now list.old answer.old }
 {
     if answer.len() < ANSWER {
@@ -235,8 +212,7 @@ pub extern "C" fn headend_pilots(plan: &[u8], list: &mut [u8], answer: &mut [u8]
 }
 
 // The pilot lamp is given a symbol.
-#[unsafe(no_mangle)]
-pub extern "C" fn headend_lamp(
+pub fn headend_lamp(
     plan: &[u8],
     symbol: &[u8],
     counts: &mut [u8],
@@ -255,8 +231,7 @@ pub extern "C" fn headend_lamp(
 }
 
 // Fills a modulator symbol.
-#[unsafe(no_mangle)]
-pub extern "C" fn headend_modulate(
+pub fn headend_modulate(
     symbol: &[u8],
     loads: &[u8],
     minus: &[u8],
