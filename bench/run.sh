@@ -9,13 +9,13 @@
 set -eu
 cd "$(dirname "$0")/.."
 rounds=${1:-300}
-out=target/bench
+out=out/bench
 flags=${CFLAGS:--O3}
 mkdir -p $out
 library=${LIBRARY:-}
 if [ -z "$library" ]; then
-    rt staticlib headend >$out/staticlib.log 2>&1 || { cat $out/staticlib.log; exit 1; }
-    library=target/staticlib/libheadend.a
+    bash tools/staticlib.sh >$out/staticlib.log 2>&1 || { cat $out/staticlib.log; exit 1; }
+    library=out/libheadend.a
 fi
 
 # table NAME SOURCE PREFIX COMPILER...: an object whose one global name is the table of the calls.
@@ -31,7 +31,7 @@ table best_gcc best.c best_ gcc
 table plain_gcc plain.c plain_ gcc
 objects="$out/best_gcc.o $out/plain_gcc.o"
 with=
-clang=${CLANG:-/opt/rattle/on/x86_64/toolchain/bin/clang}
+clang=${CLANG:-/opt/rattle/toolchain/bin/clang}
 # The kit's clang has no headers of its own: gcc's will do.
 if [ -x "$clang" ] && table best_clang best.c best_ "$clang" -isystem "$(gcc -print-file-name=include)" 2>$out/clang.log &&
     table plain_clang plain.c plain_ "$clang" -isystem "$(gcc -print-file-name=include)" 2>$out/clang.log; then

@@ -1,8 +1,8 @@
 /* The pilot lamp: lists the continuous pilots of a plan, emits symbols, and lets a lamp hear each of them. In one symbol the cell of a
  * pilot is damaged on the way: that pilot goes dark, and is lit again 128 symbols later. In the folder of the repository:
  *
- *     rt staticlib headend
- *     gcc -O2 -Iinclude examples/lamp.c target/staticlib/libheadend.a -o lamp
+ *     bash tools/staticlib.sh
+ *     gcc -O2 -Iinclude examples/lamp.c out/libheadend.a -o lamp
  *     ./lamp plans/plan-a.plan
  *
  * A real lamp hears the symbols that come over the line, sound or not: it refuses no cell, and needs neither phase nor profile. Ends with 0

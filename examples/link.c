@@ -1,8 +1,8 @@
 /* A link from end to end: judges a plan, starts an emitter and a receiver, fills ten symbols from a bit stream, each as the load profile
  * says, sends and receives them, flushes until all is back, and takes the bits back into a second stream. In the folder of the repository:
  *
- *     rt staticlib headend
- *     gcc -O2 -Iinclude examples/link.c target/staticlib/libheadend.a -o link
+ *     bash tools/staticlib.sh
+ *     gcc -O2 -Iinclude examples/link.c out/libheadend.a -o link
  *     ./link plans/plan-a.plan
  *
  * A real host puts a line, or a file, between send() and hear(), and numbers its symbols: examples/trunks.c. docs/C-HOST.md tells the

@@ -2,8 +2,8 @@
  * each with the loads of that profile, and says what stands on the line. Then shows a load that is refused. In the folder of the
  * repository:
  *
- *     rt staticlib headend
- *     gcc -O2 -Iinclude examples/modulate.c target/staticlib/libheadend.a -o modulate
+ *     bash tools/staticlib.sh
+ *     gcc -O2 -Iinclude examples/modulate.c out/libheadend.a -o modulate
  *     ./modulate plans/plan-a.plan
  *
  * docs/MODULATOR.md has the layout of a modulator symbol. */

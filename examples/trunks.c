@@ -3,8 +3,8 @@
  * is mended until it is received. A third is started again at another phase. What comes back is compared with what was sent. In the
  * folder of the repository:
  *
- *     rt staticlib headend
- *     gcc -O2 -Iinclude examples/trunks.c target/staticlib/libheadend.a -o trunks
+ *     bash tools/staticlib.sh
+ *     gcc -O2 -Iinclude examples/trunks.c out/libheadend.a -o trunks
  *     ./trunks plans/plan-a.plan
  *
  * Ends with 0 if all came back as it should. docs/C-HOST.md, "After a refusal" and "A lost symbol", tells why a host does so. */

@@ -1,4 +1,4 @@
-/* The head end's symbol path for a C host: libheadend.a, built by `rt staticlib headend`, for x86-64. docs/C-HOST.md tells more.
+/* The head end's symbol path for a C host: libheadend.a, built by tools/staticlib.sh, for x86-64. docs/C-HOST.md tells more.
  *
  * Every call returns the number of the ground that refuses it, 0 if none, and writes the rest of its answer into the first
  * HEADEND_ANSWER_BYTES bytes of `answer`, four numbers of four bytes each, high byte first (HEADEND_PLACE and so on say where).

@@ -129,9 +129,9 @@ def worked_lists():
 def wrong_worked(text):
     """What is wrong with the symbol and the lengths worked out."""
     wrong = [name for name, cells in worked_lists().items() if text.count('  %s = %s\n' % (name, cells)) != 1]
-    sizes = re.findall(r'(?:figureStore|figureCells|thrownAway) (\d+) (\d+) before given', text)
+    sizes = re.findall(r'(?:figure_store|figure_cells|thrown_away) (\d+) (\d+) before given', text)
     wrong += [] if sizes == [(str(M), str(N))] * 3 else ['the sizes are %s' % sizes]
-    lengths = re.findall(r'lineBegins \(ceiling (\d+) (\d+)\) (\d+) ≡ (\d+)', text)
+    lengths = re.findall(r'line_begins \(ceiling (\d+) (\d+)\) (\d+) ≡ (\d+)', text)
     wrong += [' '.join(found) for found in lengths
               if found[1] != found[2] or Drawing(int(found[0]), int(found[1])).length() != int(found[3])]
     return wrong if len(lengths) == 2 else wrong + ['%d lengths' % len(lengths)]
@@ -144,7 +144,7 @@ def check_worked():
         first, second, rest = cells.split(' ∷ ', 2)
         bent = ' ∷ '.join((second, first, rest)) if first != second else ' ∷ '.join((first, rest))
         assert wrong_worked(text.replace('  %s = %s' % (name, cells), '  %s = %s' % (name, bent))), name
-    for number in ('642', '58528', '425', '3745', 'Cells 4', 'Store 4'):
+    for number in ('642', '58528', '425', '3745', 'cells 4', 'store 4'):
         assert wrong_worked(text.replace(number, number + '0')), number
 
 

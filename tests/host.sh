@@ -8,7 +8,7 @@
 #     tests/host.sh --library FOLDER            the rest, over those cases
 set -eu
 cd "$(dirname "$0")/.."
-library=target/staticlib/libheadend.a
+library=out/libheadend.a
 warnings="-std=c11 -Wall -Wextra -Werror"
 sanitizers="-g -O1 -fsanitize=address,undefined -fno-sanitize-recover=all"
 
@@ -132,7 +132,7 @@ the_examples() {
 
 # The library, the examples, and wrong expectations.
 with_library() {
-    rt staticlib headend
+    bash tools/staticlib.sh
     # The library has no data of its own that could be written, and calls nothing but the copying of memory.
     if nm "$library" | grep -E ' [BbDdCcGgSs] '; then fail "the library has data that can be written"; fi
     if nm -u "$library" | grep -E '^ +U ' | grep -vE ' (memcpy|memmove|memset|memcmp|bcmp|headend_[a-z_]+)$'; then

@@ -89,7 +89,7 @@ def wrong_lines(text):
 
 def calls():
     """The calls that the library exports."""
-    source = (ROOT / 'crates/headend/src/lib.rt').read_text(encoding='utf-8')
+    source = (ROOT / 'crates/headend_c/src/lib.rt').read_text(encoding='utf-8')
     return set(re.findall(r'extern "C" fn (headend_[a-z_]+)\(', source))
 
 
@@ -179,11 +179,15 @@ def wrong_plan_file(text):
     return wrong + wrong_bytes(text) + wrong_hand(text) + wrong_lines(text)
 
 
+def source_of(program):
+    """The source of a program: all its files."""
+    return ''.join(path.read_text(encoding='utf-8') for path in sorted((ROOT / 'crates' / program / 'src').glob('*.rt')))
+
+
 def untold(text, program, words):
     """Whether what a program tells of wrong words, which begins so, does not stand there as in its source."""
-    source = (ROOT / 'crates' / program / 'src/main.rt').read_text(encoding='utf-8')
-    told = re.search(r'b"(: %s[^"]*)\\n"' % words, source)
-    return not told or '\n    %s%s\n' % (program, told.group(1)) not in text
+    told = re.search(r'"[^"\n]*?(%s[^"\\]*)(?:\\n)?"' % words, source_of(program))
+    return not told or '\n    %s: %s\n' % (program, told.group(1)) not in text
 
 
 def wrong_trials(text):
@@ -218,8 +222,7 @@ def wrong_whys(text):
              if model.why_line(plan(question[0]), int(question[1]), int(question[2])) != question[3]]
     if len(questions) != 10 or {' '.join(question[4:6]) for question in questions} != KINDS:
         wrong.append('%d questions, or not every case' % len(questions))
-    source = (ROOT / 'crates/whycheck/src/main.rt').read_text(encoding='utf-8')
-    numbers = [re.search(r'const %s: u32 = (\d+);' % name, source) for name in ('SUBCARRIER', 'PHASE')]
+    numbers = [re.search(r'const %s: u32 = (\d+);' % name, source_of('whycheck')) for name in ('SUBCARRIER', 'PHASE')]
     if 'asks about subcarrier %s at phase %s.' % tuple(found and found.group(1) for found in numbers) not in text:
         wrong.append('the subcarrier and the phase that are set are others')
     distances = re.search(r'A distance\*\* is one of (\d+), (\d+), (\d+) and (\d+)\.', text)
@@ -283,10 +286,9 @@ def wrong_dark(row):
 
 def untold_lamp(text):
     """What lampcheck tells, of which the page or the source says something else."""
-    sources = [*(ROOT / 'crates/lampcheck/src').glob('*.rt'), ROOT / 'crates/console/src/lib.rt']
-    source = ''.join(path.read_text(encoding='utf-8') for path in sources)
+    source = source_of('lampcheck') + source_of('console')
     for told in lamp.TOLD:
-        if '\n    lampcheck: %s\n' % told not in text or 'b": %s\\n"' % told not in source:
+        if '\n    lampcheck: %s\n' % told not in text or not re.search(r'%s(?:\\n)?"' % re.escape(told), source):
             yield 'something else is told than: ' + told
 
 

@@ -3,15 +3,23 @@
 # the middle, output closed or full; and what is no failure: input that ends, that comes in small parts, or that is longer than any plan;
 # and what trycheck, whycheck, linkcheck and lampcheck make of the words that they are given, as docs/TRYCHECK.md, docs/WHYCHECK.md,
 # docs/LINKCHECK.md and docs/LAMPCHECK.md say, and lampcheck of its symbols.
-# Needs gcc, and the programs, built by `rt check` or `rt ci`.
+# Needs gcc, and the programs, built by `rt ci` or by `rt run` in the folder of each.
 #
-#     tests/programs.sh            the programs of target/bin
-#     tests/programs.sh FOLDER     those of another folder
+#     tests/programs.sh            the programs where rt leaves them, crates/NAME/out/NAME
+#     tests/programs.sh FOLDER     those of a folder that has them all
 set -eu
 cd "$(dirname "$0")/.."
-bin=${1:-target/bin}
+bin=${1:-}
 work=$(mktemp -d)
 trap 'rm -rf "$work"' EXIT
+if [ -z "$bin" ]; then
+    bin=$work/bin
+    mkdir "$bin"
+    for main in crates/*/src/main.rt; do
+        program=$(basename "${main%/src/main.rt}")
+        ln -s "$PWD/crates/$program/out/$program" "$bin/$program"
+    done
+fi
 runs=0
 differences=0
 

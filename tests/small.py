@@ -52,23 +52,23 @@ def main():
     p = model.judge(between(7, 80, []))
     ranks = model.ranks_of(p)
     row('predefined', numbers(re.search(r'predefined small 30 ≡ (.*?) \[\]', table).group(1)), model.predefined(30))
-    asked, said = re.search(r'scattered small smallA j\) 0 96\) \((.*?) \[\]\) ≡ (.*)\)\n', table).groups()
+    asked, said = re.search(r'scattered small small_a j\) 0 96\) \((.*?) \[\]\) ≡ (.*)\)\n', table).groups()
     row('scattered', numbers(said), [k for j in numbers(asked) for k in model.scattered_of(p, j)])
-    asked, said = re.search(r'rankOf small smallA\) \((.*?) \[\]\) ≡ (.*) \[\]\)', table).groups()
+    asked, said = re.search(r'rank_of small small_a\) \((.*?) \[\]\) ≡ (.*) \[\]\)', table).groups()
     row('ranks', numbers(said), [ranks.index(k) for k in numbers(asked)])
 
     def key(q):
         return int(format(q % 2 ** BITS, f'0{BITS}b')[::-1], 2), q // 2 ** BITS
 
     order = sorted(range(len(ranks)), key=key)
-    asked, said = re.search(r'cellRank smallFrame\) \((.*?) \[\]\) ≡ (.*) \[\]\)', table).groups()
+    asked, said = re.search(r'cell_rank small_frame\) \((.*?) \[\]\) ≡ (.*) \[\]\)', table).groups()
     row('cells', numbers(said), [order.index(q) for q in numbers(asked)])
-    q, said = map(int, re.search(r'spot smallFrame (\d+) ≡ (\d+)', table).groups())
+    q, said = map(int, re.search(r'spot small_frame (\d+) ≡ (\d+)', table).groups())
     spot = ranks[order.index(q)]
     row('spot', said, spot)
-    j, q, phase = map(int, re.search(r'sentPhase smallFrame (\d+) (\d+) ≡ (\d+)', table).groups())
-    row('sentPhase', phase, (j + q % 4) % 128)
-    held = re.search(r'held smallFrame (\d+) (\d+) ≡ (true|false)', table).groups()
+    j, q, phase = map(int, re.search(r'sent_phase small_frame (\d+) (\d+) ≡ (\d+)', table).groups())
+    row('sent_phase', phase, (j + q % 4) % 128)
+    held = re.search(r'held small_frame (\d+) (\d+) ≡ (true|false)', table).groups()
     row('held', held, (str(j), str(q), str(model.on_grid(p, spot, phase)).lower()))
     if rows != table.count('≡'):
         wrong += 1

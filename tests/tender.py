@@ -1,13 +1,16 @@
 #!/usr/bin/env python3
-"""Holds the documents to what is there, after `rt check` or `rt ci` has proved all crates.
+"""Holds the documents to what is there.
 
-    python3 tests/tender.py
+    python3 tests/tender.py [LOG]       LOG is what a run of `rt ci` printed, as the gate gives it
 
-- Each line `fn CRATE::FUNCTION: proved` that docs/TENDER.md and docs/CLAIMS.md cite stands in that crate's log.
-- Each word of a crate's last line, `logic=proved ..`, is one that docs/CLAIMS.md explains.
-- docs/EDITS.md names each edit that must fail, no other, and their number.
+- Each line `fn CRATE::FUNCTION: proved` that docs/TENDER.md and docs/CLAIMS.md cite is of a function that stands in that crate with a
+  promise, an `ensures`. In LOG every crate is proved, or kept, which says that an earlier run proved the same files over the same
+  libraries; and where the run proved the crate itself, the cited line stands in what it printed of the crate.
+- Each word of a crate's last line in LOG, `logic=proved ..`, is one that docs/CLAIMS.md explains.
+- docs/EDITS.md names each edit that must fail, no other, and their number; and each edit can be made: its text stands in its file once.
 - README.md has each crate of crates.txt in its map, and no other.
-- Each path and each link that a document cites exists. docs/CHANGES.md tells of earlier states and is left out.
+- Each path and each link that a document cites exists; of crates/NAME/out, which rt makes, the program or the static library does.
+  docs/CHANGES.md tells of earlier states and is left out.
 
 Each of these is tried first on a citation that is wrong, and has to notice it.
 """
@@ -16,10 +19,9 @@ import sys
 from pathlib import Path
 
 ROOT = Path(__file__).resolve().parent.parent
-LOGS = ROOT / 'target/log'
-FOLDERS = 'crates|docs|tests|include|examples|bench|plans'
+FOLDERS = 'crates|docs|tests|include|examples|bench|plans|tools'
 STAND_INS = {'NAME', 'LABEL', 'FUNCTION'}
-FREE = ('functions', 'target')
+FREE = ('functions', 'target', 'tests')
 
 
 def text(name):
@@ -31,42 +33,73 @@ def documents():
     return [page for page in pages if page.name != 'CHANGES.md']
 
 
-def log(crate):
-    """What the last check of a crate printed.  NAME.out is that of the last run, which prints no lines if nothing changed; NAME.say is
-    that of the prover."""
-    answer = LOGS / f'{crate}.res'
-    if not answer.exists() or answer.read_text().strip() not in ('proved', 'built'):
-        return []
-    files = [LOGS / f'{crate}.{end}' for end in ('out', 'say')]
-    return [line for file in files if file.exists() for line in file.read_text(encoding='utf-8').splitlines()]
+def sections(log):
+    """What a run of `rt ci` printed of each crate that it proved itself: the lines from `== CRATE` to `rt: CRATE proved`."""
+    found = {}
+    for crate, lines in re.findall(r'^== (\w+)\n(.*?)^rt: \1 (?:proved|NOT PROVED)$', log, re.M | re.S):
+        found[crate] = lines.splitlines()
+    return found
 
 
 def crates():
-    return re.findall(r'^(\w+):', text('crates.txt'), re.M)
+    return re.findall(r'^(\w+)(?: staticlib)?:', text('crates.txt'), re.M)
+
+
+def unproved(log, names):
+    """Crates that a run of `rt ci` neither proved nor found proved by an earlier one."""
+    for crate in names:
+        if not re.search(rf'^rt: {crate} (?:proved$|is kept: an earlier run on this machine proved the same files)', log, re.M):
+            yield f'{crate} is neither proved nor kept in the log of rt ci'
 
 
 def cited_lines(page):
-    """The lines that a page cites, each with its crate.  Names are in small letters."""
-    return sorted(set(re.findall(r'(fn ([a-z0-9_]+)::[a-z0-9_]+: proved)', page)))
+    """The lines that a page cites, each with its crate and function.  Names are in small letters."""
+    return sorted(set(re.findall(r'(fn ([a-z0-9_]+)::([a-z0-9_]+): proved)', page)))
 
 
-def missing_lines(page):
-    """Of the cited lines those that stand in no log."""
-    for line, crate in cited_lines(page):
-        if line not in log(crate):
-            yield f'`{line}` is cited and is not in target/log/{crate}.out'
+def promises(crate, function):
+    """Whether the function stands in the crate's source with an `ensures`."""
+    source = '\n'.join(file.read_text(encoding='utf-8') for file in sorted((ROOT / 'crates' / crate / 'src').glob('*.rt')))
+    found = re.search(rf'^ *(?:pub )?(?:extern "C" )?fn {function}[(<](.*?)^ *\{{\}}?$', source, re.M | re.S)
+    return bool(found) and bool(re.search(r'^ +ensures', found.group(1), re.M))
+
+
+def missing_lines(page, proved):
+    """Of the cited lines those that no check of today's source prints, or that a run of `rt ci` did not print of a crate it proved."""
+    for line, crate, function in cited_lines(page):
+        if not promises(crate, function):
+            yield f'`{line}` is cited, and crates/{crate}/src has no such function with a promise'
+        elif crate in proved and line not in proved[crate]:
+            yield f'`{line}` is cited, and the run of rt ci did not print it'
 
 
 def unknown_words(crate, lines, claims, readme):
     """Of the words of a crate's last line those that are not explained."""
     last = [line for line in lines if line.startswith('logic=proved ')]
     if not last:
-        yield f'{crate} has no line `logic=proved ..` in target/log'
+        yield f'{crate} has no line `logic=proved ..` in the log of rt ci'
     for word in ' '.join(last[:1]).split()[1:]:
         name, _, value = word.partition('=')
         known = name in FREE or (value in readme if name == 'sum' else f'`{word}`' in claims)
         if not known:
             yield f'{crate} is proved with `{word}`, which docs/CLAIMS.md does not explain'
+
+
+def unfit_edits(name, edit):
+    """Why an edit of the crate cannot be made: each of its texts has to stand in its file once."""
+    path, old, texts = '', '', {}
+    for line in edit.splitlines():
+        word, _, rest = line.partition(':')
+        if word == 'file':
+            path = rest.strip()
+        elif word == 'old':
+            old = rest[1:]
+        elif word == 'new':
+            file = ROOT / 'crates' / name / path
+            there = texts.get(path) or (file.read_text(encoding='utf-8') if file.is_file() else '')
+            if there.count(old) != 1:
+                yield f'its text `{old}` is in {path} {there.count(old)} times'
+            texts[path] = there.replace(old, rest[1:])
 
 
 def wrong_edits(page):
@@ -79,6 +112,9 @@ def wrong_edits(page):
         yield f'docs/EDITS.md names {edit}, and there is no such edit'
     if f'There are {len(there)} edits.' not in page:
         yield f'docs/EDITS.md does not say that there are {len(there)} edits'
+    for file in sorted(ROOT.glob('crates/*/must-fail/*.edit')):
+        for why in unfit_edits(file.parts[-3], file.read_text(encoding='utf-8')):
+            yield f'the edit {file.parts[-3]}/{file.stem} cannot be made: {why}'
 
 
 def wrong_map(readme):
@@ -95,7 +131,9 @@ def lost_paths(page, folder):
     for path in sorted(set(re.findall(rf'(?<![\w/])(?:{FOLDERS})/[\w./*-]*\w', page))):
         if '..' in path or STAND_INS & set(path.replace('.', '/').split('/')):
             continue
-        if not any(ROOT.glob(path)):
+        made = re.fullmatch(r'crates/(\w+)/out/(?:(\w+)|lib(\w+)\.a)', path)
+        there = (ROOT / 'crates' / made[1] / 'src' / ('main.rt' if made[2] else 'lib.rt')).is_file() if made else any(ROOT.glob(path))
+        if not there or made and made[1] != (made[2] or made[3]):
             yield f'{path} is cited and is not there'
     for link in sorted(set(re.findall(r'\]\(([^)\s#:]+)(?:#[^)]*)?\)', page))):
         if not (folder / link).exists():
@@ -105,24 +143,34 @@ def lost_paths(page, folder):
 def tries():
     """Each test on a wrong citation: it must notice it."""
     claims, readme, edits = text('docs/CLAIMS.md'), text('README.md'), text('docs/EDITS.md')
+    log = '== judge\nfn judge::judge: proved\nrt: judge proved\nrt: rules is kept: an earlier run\n'
     bent = {
-        'a line': missing_lines('`fn judge::unproved: proved`'),
+        'a function': missing_lines('`fn judge::unproved: proved`', {}),
+        'a promise': missing_lines('`fn plancheck::main: proved`', {}),
+        'a line': missing_lines('`fn judge::role: proved`', sections(log)),
+        'a crate of the log': unproved(log, ['rules']),
         'a word': unknown_words('judge', ['logic=proved functions=1 cache=trusted'], claims, readme),
         'a sum': unknown_words('judge', ['logic=proved sum=1234567890abcdef'], claims, readme),
         'an edit': (said for said in wrong_edits(edits + '`judge/unproved`') if 'judge/unproved' in said),
+        'a text': unfit_edits('judge', 'file: src/lib.rt\nold: unproved\nnew: proved\n'),
         'a crate': (said for said in wrong_map(readme.replace('| `judge` |', '| `unproved` |')) if 'unproved' in said),
         'a path': lost_paths('crates/unproved/src/lib.rt', ROOT),
+        'a program': lost_paths('crates/judge/out/judge', ROOT),
         'a link': lost_paths('[a page](unproved.md)', ROOT),
     }
     return [f'this test does not notice {what} that is not there' for what, said in bent.items() if not list(said)]
 
 
 def main():
+    log = Path(sys.argv[1]).read_text(encoding='utf-8') if len(sys.argv) > 1 else None
     tender, claims, readme = text('docs/TENDER.md'), text('docs/CLAIMS.md'), text('README.md')
+    proved = sections(log or '')
     wrong = tries()
-    wrong += missing_lines(tender + claims)
-    for crate in crates():
-        wrong += unknown_words(crate, log(crate), claims, readme)
+    wrong += missing_lines(tender + claims, proved)
+    if log is not None:
+        wrong += unproved(log, crates())
+    for crate, lines in proved.items():
+        wrong += unknown_words(crate, lines, claims, readme)
     wrong += wrong_edits(text('docs/EDITS.md'))
     wrong += wrong_map(readme)
     for page in documents():
@@ -130,7 +178,8 @@ def main():
     for said in wrong:
         print(f'tender.py: {said}')
     lines = len(cited_lines(tender + claims))
-    print(f'documents: {lines} cited lines, {len(crates())} crates, {len(documents())} pages, {len(wrong)} wrong')
+    seen = f'{len(proved)} of {len(crates())} crates in the log' if log is not None else f'{len(crates())} crates, without a log'
+    print(f'documents: {lines} cited lines, {seen}, {len(documents())} pages, {len(wrong)} wrong')
     sys.exit(1 if wrong else 0)
 
 

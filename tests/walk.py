@@ -157,14 +157,14 @@ def wrong_table(text):
     """What the crate's table says otherwise than the model; and whether every row was looked at."""
     body = text.split('WalkTable =')[1]
     looked, wrong = 0, []
-    for b, n, k, list_ in re.findall(r'\(walkList (\d+) (\d+) (\d+) ≡ (.*?)\[\]\)', body):
+    for b, n, k, list_ in re.findall(r'\(walk_list (\d+) (\d+) (\d+) ≡ (.*?)\[\]\)', body):
         looked += 1
         if Walk(int(b), int(n)).cells()[:int(k)] != [int(x) for x in re.findall(r'\d+', list_)]:
-            wrong.append('walkList %s %s %s' % (b, n, k))
-    for b, n, p, found, after in re.findall(r'\(nextCell (\d+) (\d+) straight (\d+) ≡ (none|some (\d+))\)', body):
+            wrong.append('walk_list %s %s %s' % (b, n, k))
+    for b, n, p, found, after in re.findall(r'\(next_cell (\d+) (\d+) straight (\d+) ≡ (none|some (\d+))\)', body):
         looked += 1
         if Walk(int(b), int(n)).step(int(p)) != (int(after) if after else None):
-            wrong.append('nextCell %s %s %s' % (b, n, p))
+            wrong.append('next_cell %s %s %s' % (b, n, p))
     if not looked or looked != body.count('≡'):
         wrong.append('%d rows of %d were looked at' % (looked, body.count('≡')))
     return wrong
