@@ -23,7 +23,6 @@ use Rattle.scaling.specs.Scale.{scaled_point}
 use Rattle.scaling.proofs.Sweep.{holds}
 use Rattle.scaling.proofs.NearLaws.{scaled_at}
 use Rattle.modulator.specs.declared.OnLine.TheVariants.{Point}
-use Rattle.modulator.specs.declared.LineAnswer.{LineAnswer}
 use Rattle.modulator.specs.declared.LineAnswer.TheVariants.{Is}
 use Rattle.modulator.specs.Lines.{line_from, unmarked, marked, mark_line, line_of, line_answer}
 use Rattle.modulator.specs.Symbols.{refused, line_at, is_minus, line_refusal}
