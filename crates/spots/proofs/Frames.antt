@@ -7,7 +7,7 @@ use native.Mathlib.Omega.{arith}
 use lib.Dec.{eqb}
 use lib.ListN.{length, get_or, take}
 use lib.Seq.{length-take-le, get_or-take}
-use Rattle.counting.specs.Search.{bit, count, select, rank, is_zero}
+use Rattle.counting.specs.Search.{bit, count, select, is_zero}
 use Rattle.counting.proofs.Laws.{count_ext, count_le}
 use Rattle.counting.proofs.Lists.{get_d_tabulate}
 use Rattle.counting.proofs.Sums.{count_not}

@@ -1,5 +1,4 @@
 -- `delay::pass` meets its contract. The next group begins with cell p. Assumes nothing.
-use Prim.Native.Nat.{◌-◌}
 use native.Mathlib.Omega.{arith}
 use Rattle.delay.proofs.Passing.{passing_first, passing_some, passing_at, passing_less, passing_next, passing_end}
 use Rattle.delay.proofs.pass.Goals as goal

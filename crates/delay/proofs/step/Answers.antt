@@ -14,8 +14,8 @@ pub returns-then-places-eq0 : goal.returns-then-places-eq0
 returns-then-places-eq0 c =
     let a = c.args in
     let r : (a.store.now ≡ moved (end_delay a.emitter a.m) (length a.cells.now) a.store.now a.cells.now)
-      × (a.cells.now ≡ oldest (end_delay a.emitter a.m) (length a.cells.now) a.store.now a.cells.now) =
-      still _ _ _ (omega (arith, c.requires.3, c.if-places-eq0.true))
+    × (a.cells.now ≡ oldest (end_delay a.emitter a.m) (length a.cells.now) a.store.now a.cells.now) =
+    still _ _ _ (omega (arith, c.requires.3, c.if-places-eq0.true))
     in
     record { stored = r.0; sent = r.1 }
 
@@ -33,7 +33,7 @@ returns c =
     let g = c in
     let a = c.args in
     let r : (set c.shift.new.store (a.places - 1) c.pass-last.result ≡ moved (end_delay a.emitter a.m) (length a.cells.now) a.store.now a.cells.now)
-      × (c.pass-last.new.cells ≡ oldest (end_delay a.emitter a.m) (length a.cells.now) a.store.now a.cells.now) =
-      stepped _ _ _ _ _ _ _ c.pass-last.ensures g.requires.3 g.requires.4 (omega (arith, c.if-places-eq0.false)) _ c.shift.ensures
+    × (c.pass-last.new.cells ≡ oldest (end_delay a.emitter a.m) (length a.cells.now) a.store.now a.cells.now) =
+    stepped _ _ _ _ _ _ _ c.pass-last.ensures g.requires.3 g.requires.4 (omega (arith, c.if-places-eq0.false)) _ c.shift.ensures
     in
     record { stored = r.0; sent = r.1 }

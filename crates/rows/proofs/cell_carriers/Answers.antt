@@ -47,7 +47,10 @@ unfolding stores
 loop-i-init c = (omega arith, omega arith, refl, sym (rows_none _ _), refl)
 
 pub bounds-order-at : goal.bounds-order-at
-bounds-order-at c = omega (arith, tabled (goal.at.bounds-order-at c).In-loop-i, c.loop-i.invariant.1, c.power-step.ensures, pow_pos (row_bits_max - c.args.bits))
+bounds-order-at c =
+    let n : c.loop-i.i < 2 ^ c.args.bits = omega (arith, c.loop-i-test.true, c.power-rows.ensures) in
+    let t : c.loop-i.i * c.power-step.result + c.power-step.result ≤ 256 = in_table _ _ _ c.requires.0 c.power-step.ensures n in
+    omega (arith, t, c.loop-i.invariant.1, c.power-step.ensures, pow_pos (row_bits_max - c.args.bits))
 
 pub carry_row-next-requires : goal.carry_row-next-requires
 carry_row-next-requires c =
