@@ -16,7 +16,7 @@ use Rattle.counting.proofs.Laws.{count_lt}
 use Rattle.counting.proofs.Select.{select-count}
 use Rattle.rules.specs.declared.Device.{Device}
 use Rattle.rules.specs.Plan.{Plan}
-use Rattle.rules.specs.Roles.{role, ranked, mark}
+use Rattle.rules.specs.Roles.{role}
 use Rattle.rules.specs.Frame.{Frame, frame_of, cells, spot, holder, delay, phase_back, held, is_data, data_count, Given, flush, symbol, data_list, input_cells, line_symbol, filler, fits_role}
 use Rattle.rules.specs.Steps.{Emitter, Send}
 use Rattle.roles.proofs.Fitting.{cell_fits, fits_role_lem}

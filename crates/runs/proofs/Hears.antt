@@ -3,10 +3,8 @@ use Prim.Native.Nat.{ℕ, ◌≤◌, ◌<◌}
 use mathlib.Core.Path.{◌≡◌, refl, sym, ap, ◌∙◌}
 use mathlib.Core.Bool.{Bool, true, false, not, ◌&&◌, ◌||◌}
 use mathlib.Core.List.{List, ◌∷◌}
-use native.Mathlib.Omega.{arith}
 use lib.Dec.{ltb, eqb}
-use lib.ListN.{length, take, length-map}
-use lib.Seq.{sets}
+use lib.ListN.{length, length-map}
 use borrow.Author.Tests.{ltb-false}
 use Rattle.counting.specs.Search.{pick}
 use Rattle.counting.proofs.Bools.{neither, by_test}

@@ -2,7 +2,7 @@
 -- nothing.
 use Prim.Native.Nat.{ℕ, zero, suc, ◌+◌, ◌-◌, ◌*◌, ◌≤◌, ◌<◌}
 use mathlib.Core.Path.{◌≡◌, refl, sym, ap, ap₂, ◌∙◌, subst}
-use mathlib.Core.Bool.{Bool, true, false}
+use mathlib.Core.Bool.{Bool, true}
 use mathlib.Core.List.{List, [], ◌∷◌, ◌++◌}
 use mathlib.Core.Logic.{◌↔◌, by_cases}
 use native.Mathlib.Decide.{dec_lt}
@@ -12,15 +12,13 @@ use lib.Dec.{ltb}
 use lib.ListN.{length, get_or, take, drop, replicate, get_or-replicate, length-replicate, take-append-drop, length-drop, get_or-eq_default}
 use lib.Seq.{sets, take-take, take-nil, drop-drop, length-take-le}
 use borrow.Author.Tests.{ltb-false}
-use Rattle.counting.specs.Search.{lowest}
 use Rattle.counting.proofs.Laws.{lowest_none}
 use Rattle.rules.specs.declared.CountAnswer.TheVariants.{Count, Refused}
-use Rattle.rules.specs.declared.Finding.{Finding}
-use Rattle.rules.specs.declared.Finding.TheVariants.{Fine, Ground}
-use Rattle.rules.specs.Grounds.{◌else◌, ground?}
+use Rattle.rules.specs.declared.Finding.TheVariants.{Fine}
+use Rattle.rules.specs.Grounds.{◌else◌}
 use Rattle.rules.specs.Frame.{Frame, data_count, next_phase, Given, flush, symbol, data_list, filler}
 use Rattle.counting.specs.Bytes.{Octets}
-use Rattle.rules.specs.Bits.{value, total, cell_bits, cells_from, stream_bits, bytes_from, bits_between, with_bits, filled_from, unfilled_into}
+use Rattle.rules.specs.Bits.{value, total, cell_bits, cells_from, stream_bits, bytes_from, bits_between, with_bits, filled_from}
 use Rattle.rules.specs.Loads.{ground25, load_limit, data_loads, ground19}
 use Rattle.rules.specs.Filling.{Filling, fills, bit_count, fill_grounds, unfill_grounds, frame_fill, frame_unfill}
 use Rattle.rules.specs.Steps.{Emitter, Send}

@@ -5,8 +5,7 @@ use Rattle.rules.specs.Device.{khz50}
 use Rattle.rules.proofs.Sizes.{khz50_fits}
 use Rattle.pilots.specs.Claims.{Rising}
 use Rattle.pilots.proofs.Truth.{pilot_claims}
-use Rattle.pilots.proofs.pilot_claims.Statement.{statement}
-use Rattle.pilots.proofs.pilot_claims.Tie as tie
+use Rattle.pilots.proofs.pilot_claims.Goals as goal
 
 -- 15, 24, 35 and 47
 distances-rise : Rising khz50.distances
@@ -15,8 +14,5 @@ distances-rise (suc zero) h = omega arith
 distances-rise (suc (suc zero)) h = omega arith
 distances-rise (suc (suc (suc i))) h = absurd (omega arith)
 
-returns : tie.Need-returns
+pub returns : goal.returns
 returns c = λ s. pilot_claims khz50 khz50_fits distances-rise s
-
-pub pilot_claims_spec : {M : Type 1} → statement M
-pilot_claims_spec = tie.close (tie.spec returns)

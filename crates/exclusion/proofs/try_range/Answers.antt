@@ -1,0 +1,29 @@
+-- `exclusion::try_range` meets its contract: the tables start empty. Assumes nothing.
+use mathlib.Core.Path.{sym, ap, ◌∙◌, subst}
+use Prim.Native.Nat.{ℕ}
+use lib.ListN.{replicate, length-replicate}
+use Rattle.ranges.proofs.NoteLaws.{table_zero, flags_zero, hit_zero}
+use Rattle.plan.specs.declared.Chain.{Chain}
+use Rattle.plan.specs.Noted.{finding_of, Filled}
+use Rattle.plan.proofs.ChainLaws.{kept_start}
+use Rattle.exclusion.proofs.Trials.{trial_refused}
+use Rattle.exclusion.proofs.try_range.Goals as goal
+
+pub walk_chain-requires : goal.walk_chain-requires
+walk_chain-requires c =
+    let g = c in
+    (g.requires.0, kept_start (table_zero 4096 g.args.d.subcarriers g.requires.0.few) (flags_zero 4096 (replicate 256 0) (length-replicate {A = ℕ} 256 0)) (hit_zero 4096) (length-replicate {A = ℕ} 128 0) (length-replicate {A = ℕ} 128 0))
+
+pub try_copy-requires : goal.try_copy-requires
+try_copy-requires c =
+    let g = c in
+    let w = c.walk_chain in
+    let told = c.in-Good.is in
+    let tables = w.last.1.1.1.1 in
+    let filled = subst (λ (r : Chain). Filled r g.args.d g.args.plan.now tables.0 tables.1.0 tables.1.1.0 tables.1.1.1.0) told w.ensures.1 in
+    (g.requires.0, sym w.ensures.0 ∙ ap finding_of told, filled.0, filled.1, g.requires.1)
+
+pub returns-in-Bad : goal.returns-in-Bad
+returns-in-Bad c =
+    let g = c in
+    (sym (trial_refused g.args.d g.args.plan.now g.args.first g.args.last _ _ (sym c.walk_chain.ensures.0 ∙ ap finding_of c.in-Bad.is)), tt)
