@@ -1,5 +1,4 @@
 -- `bytedelay::pass` meets its contract. The next group begins with cell p. Assumes nothing.
-use Prim.Native.Nat.{◌-◌}
 use native.Mathlib.Omega.{arith}
 use Rattle.bytecells.specs.Octets.{cells_of}
 use Rattle.bytecells.proofs.OctetLaws.{whole_length}

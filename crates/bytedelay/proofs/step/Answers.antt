@@ -14,8 +14,8 @@ returns-then-places-eq0 c =
     let g = c in
     let a = c.args in
     let r : (a.store.now ≡ bytes_of (moved (end_delay a.emitter a.m) (length a.cells.now) (cells_of a.store.now) a.cells.now))
-      × (a.cells.now ≡ oldest (end_delay a.emitter a.m) (length a.cells.now) (cells_of a.store.now) a.cells.now) =
-      byte_still _ _ _ g.requires.0 (omega (arith, g.requires.4, c.if-places-eq0.true))
+    × (a.cells.now ≡ oldest (end_delay a.emitter a.m) (length a.cells.now) (cells_of a.store.now) a.cells.now) =
+    byte_still _ _ _ g.requires.0 (omega (arith, g.requires.4, c.if-places-eq0.true))
     in
     record { stored = r.0; sent = r.1 }
 
@@ -35,7 +35,7 @@ returns c =
     let g = c in
     let a = c.args in
     let r : (c.put.new.store ≡ bytes_of (moved (end_delay a.emitter a.m) (length a.cells.now) (cells_of a.store.now) a.cells.now))
-      × (c.pass-last.new.cells ≡ oldest (end_delay a.emitter a.m) (length a.cells.now) (cells_of a.store.now) a.cells.now) =
-      byte_stepped _ _ _ g.requires.0 _ _ _ _ c.pass-last.ensures.passed _ c.shift.ensures g.requires.4 g.requires.5 (omega (arith, c.if-places-eq0.false)) _ c.put.ensures
+    × (c.pass-last.new.cells ≡ oldest (end_delay a.emitter a.m) (length a.cells.now) (cells_of a.store.now) a.cells.now) =
+    byte_stepped _ _ _ g.requires.0 _ _ _ _ c.pass-last.ensures.passed _ c.shift.ensures g.requires.4 g.requires.5 (omega (arith, c.if-places-eq0.false)) _ c.put.ensures
     in
     record { stored = r.0; sent = r.1 }

@@ -1,5 +1,5 @@
 -- `coordinates::fill_lower` meets its contract. Assumes nothing.
-use Prim.Native.Nat.{ℕ, ◌+◌, ◌-◌, ◌^◌, ◌<◌}
+use Prim.Native.Nat.{ℕ, ◌+◌, ◌^◌, ◌<◌}
 use mathlib.Core.Path.{◌≡◌, ap, ◌∙◌, subst}
 use native.Mathlib.Omega.{arith}
 use mir.Syntax.{w32}
@@ -16,7 +16,7 @@ use Rattle.coordinates.specs.Table.{times, Written}
 use Rattle.coordinates.proofs.Entries.{read, small_y}
 use Rattle.coordinates.proofs.Writing.{written_none, written_next}
 use Rattle.coordinates.proofs.fill_lower.Goals as goal
-use Rattle.coordinates.proofs.fill_lower.Goals.{After-crossed-arg-1, After-crossed-c, After-struct_told-1}
+use Rattle.coordinates.proofs.fill_lower.Goals.{After-crossed-arg-1, After-struct_told-1}
 
 -- the Gray value that is read
 value : (c : After-crossed-arg-1) → to_z w32 (of_z w32 (get_or c.args.w.now (c.power-p.result + c.loop-k.k) (pos 0))) ≡ gray c.args.bits c.loop-k.k
@@ -32,7 +32,7 @@ coordinate : (c : After-struct_told-1) → to_z w32 (of_z w32 c.crossed-c.result
 coordinate c =
     let g = c in
     let k = c.loop-k.k in
-    through (small_fits (cross g.args.s (pos g.args.i) (gray g.args.bits k)).y (omega (arith, small c))) (ap (λ (p : Point). p.y) (let g = c in c.crossed-c.ensures ∙ (λ j. cross g.args.s (to_z_pos w32 g.args.i (omega (arith, g.requires.4, g.requires.6)) j) (value c.⟦After-crossed-c⟧ j))))
+    through (small_fits (cross g.args.s (pos g.args.i) (gray g.args.bits k)).y (omega (arith, small c))) (ap (λ (p : Point). p.y) ((let it : c.crossed-c.result ≡ cross c.args.s (pos c.args.i) (gray c.args.bits c.loop-k.k) = let g = c in c.crossed-c.ensures ∙ (λ j. cross g.args.s (to_z_pos w32 g.args.i (omega (arith, g.requires.4, g.requires.6)) j) ((let it : to_z w32 (of_z w32 (get_or c.args.w.now (c.power-p.result + c.loop-k.k) (pos 0))) ≡ gray c.args.bits c.loop-k.k = let g = c in read g.args.w.now g.requires.1 g.args.bits c.power-p.result c.loop-k.k g.requires.2 c.power-p.ensures c.loop-k-test.true in it) j)) in it)))
 
 pub loop-k-init : goal.loop-k-init
 loop-k-init c = (omega arith, written_none _ _ _)

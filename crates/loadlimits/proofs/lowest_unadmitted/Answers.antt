@@ -1,5 +1,5 @@
 -- `loadlimits::lowest_unadmitted` meets its contract. The loop has passed the subcarriers below k, whose cells are admitted. Assumes nothing.
-use Prim.Native.Nat.{ℕ, ◌-◌}
+use Prim.Native.Nat.{ℕ}
 use mathlib.Core.Path.{◌≡◌, sym, ap, ◌∙◌}
 use mathlib.Core.Bool.{not}
 use native.Mathlib.Numerals.{add-one}

@@ -1,5 +1,5 @@
 -- `rotatedlines::rotate_lines` meets its contract. The lines before line r are rotated, and the buffer is as long as it was. Assumes nothing.
-use Prim.Native.Nat.{◌+◌, ◌-◌, ◌≤◌}
+use Prim.Native.Nat.{◌+◌, ◌≤◌}
 use mathlib.Core.Path.{refl, sym, ◌∙◌}
 use native.Mathlib.Omega.{arith}
 use lib.ListN.{length}
