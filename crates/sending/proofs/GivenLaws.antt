@@ -9,7 +9,7 @@ use lib.Dec.{ltb}
 use lib.ListN.{length, get_or, take}
 use lib.Seq.{length-take-le}
 use borrow.Author.Tests.{eq-eqb, ne_eqb}
-use Rattle.counting.specs.Search.{when, lowest, select, is_zero}
+use Rattle.counting.specs.Search.{when, lowest, select}
 use Rattle.counting.proofs.Lists.{get_d_tabulate}
 use Rattle.counting.proofs.Searches.{lowest_ext}
 use Rattle.rules.specs.declared.Finding.{Finding}

@@ -1,0 +1,6 @@
+-- `receiving::next_state` meets its contract. Assumes nothing.
+
+use Rattle.receiving.proofs.next_state.Goals as goal
+
+pub returns : goal.returns
+returns c = λ i. record { phase = c.next_phase.ensures i; heard = c.next_heard.ensures i }
