@@ -5,7 +5,7 @@ use mathlib.Core.Bool.{true, false, not, ◌||◌}
 use mathlib.Core.List.{List, []}
 use mathlib.Core.Logic.{◌↔◌}
 use lib.ListN.{length, replicate}
-use borrow.Author.Tests.{not-true, not-false}
+use borrow.Author.Tests.{not-true}
 use Rattle.counting.proofs.Bools.{by_test}
 use Rattle.rules.specs.declared.Device.{Device}
 use Rattle.rules.specs.declared.Finding.TheVariants.{Fine}
@@ -13,14 +13,13 @@ use Rattle.rules.specs.declared.Verdict.TheVariants.{Accepted}
 use Rattle.rules.specs.Device.{khz50}
 use Rattle.rules.specs.Plan.{plan_of}
 use Rattle.rules.specs.Grounds.{grounds1to15, verdict}
-use Rattle.rules.specs.Frame.{Frame, frame_of, data_count, Given, flush, symbol}
-use Rattle.rules.specs.Steps.{Emitter, Send, Sending, send_step}
-use Rattle.rules.specs.Filling.{fills}
+use Rattle.rules.specs.Frame.{Frame, frame_of, Given, flush, symbol}
+use Rattle.rules.specs.Steps.{Emitter, Send, send_step}
 use Rattle.rules.specs.Receive.{Receiver, Arrival, hear_step}
 use Rattle.bytecells.specs.Octets.{cells_of, odd}
 use Rattle.bytecells.specs.ByteSteps.{sent_bytes}
 use Rattle.frame.specs.Counted.{phase_of}
-use Rattle.runs.specs.Run.{Entries, cell_entries, read_given, input, sent, emitter_after, heard, receiver_after, is_sent, is_received, Fresh, FreshReceiver}
+use Rattle.runs.specs.Run.{Entries, cell_entries, input, sent, emitter_after, heard, receiver_after, is_sent, is_received, Fresh, FreshReceiver}
 use Rattle.runs.specs.Follow.{Flushed, Follows}
 use Rattle.runs.specs.Demand3.{Returned, Demand3}
 use Rattle.runs.specs.Claims.{InputAt, PlanClaims}

@@ -1,6 +1,6 @@
 -- What a planner may believe of a trial (document 02, Req 05): what the copy says, beside the plan, and what is answered of it. Statements
 -- only, of a plan s that no ground of 1 to 5 refuses, on any device. Assumes nothing.
-use Rattle.std.specs.Prelude.{ℕ, ◌+◌, ◌/◌, ◌≤◌, ◌<◌, ◌≡◌, not, ◌&&◌, ◌||◌, List, [], ◌∷◌, ◌++◌, map, length}
+use Rattle.std.specs.Prelude.{ℕ, ◌/◌, ◌≤◌, ◌<◌, ◌≡◌, not, ◌&&◌, ◌||◌, List, [], ◌∷◌, ◌++◌, map, length}
 use Rattle.counting.specs.Search.{count}
 use Rattle.rules.specs.declared.Device.{Device}
 use Rattle.rules.specs.declared.Verdict.TheVariants.{Accepted, Refused}

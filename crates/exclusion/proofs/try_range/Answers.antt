@@ -19,8 +19,8 @@ try_copy-requires c =
     let g = c in
     let w = c.walk_chain in
     let told = c.in-Good.is in
-    let tables = w.last.1.1.1.1 in
-    let filled = subst (λ (r : Chain). Filled r g.args.d g.args.plan.now tables.0 tables.1.0 tables.1.1.0 tables.1.1.1.0) told w.ensures.1 in
+    let tables = w.new in
+    let filled = subst (λ (r : Chain). Filled r g.args.d g.args.plan.now tables.reach tables.hot tables.pil tables.rec) told w.ensures.1 in
     (g.requires.0, sym w.ensures.0 ∙ ap finding_of told, filled.0, filled.1, g.requires.1)
 
 pub returns-in-Bad : goal.returns-in-Bad

@@ -2,11 +2,7 @@
 use mathlib.Core.Path.{sym}
 use Rattle.rules.specs.Device.{khz50}
 use Rattle.byteruns.proofs.Sends.{left_bytes}
-use Rattle.byteruns.proofs.bytes_sent.Statement.{statement}
-use Rattle.byteruns.proofs.bytes_sent.Tie as tie
+use Rattle.byteruns.proofs.bytes_sent.Goals as goal
 
-returns : tie.Need-returns
+pub returns : goal.returns
 returns c = λ s e steps. sym (left_bytes khz50 s e steps)
-
-pub bytes_sent_spec : {M : Type 1} → statement M
-bytes_sent_spec = tie.close (tie.spec returns)
