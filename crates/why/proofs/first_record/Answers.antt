@@ -1,5 +1,4 @@
 -- `why::first_record` meets its contract. The loop stands at record i of the chain, and none before it has the effect. Assumes nothing.
-use Prim.Native.Nat.{◌-◌}
 use mathlib.Core.Path.{sym, ◌∙◌}
 use native.Mathlib.Omega.{arith}
 use Rattle.records.specs.Read.{entry_of}

@@ -17,13 +17,12 @@ use Rattle.why.proofs.why.Goals as goal
 pub with_reason-requires : goal.with_reason-requires
 with_reason-requires c =
     let g = c.args in
-    let r = c.r-1.given in
-    let a = role_answered khz50 g.plan.now g.subcarrier g.phase r.0.0 (sym c.role.ensures ∙ r.1) in
+    let a = role_answered khz50 g.plan.now g.subcarrier g.phase c.in-Is.r (sym c.role.ensures ∙ c.in-Is.is) in
     let is = sym c.khz50_device.ensures in (
       subst Fits is khz50_fits,
       subst (λ (d : Device). grounds1to15 d g.plan.now ≡ Fine) is a.fine,
       subst (λ (d : Device). g.subcarrier < d.subcarriers) is a.below,
-      subst (λ (d : Device). r.0.0 ≡ role d (plan_of g.plan.now) g.phase g.subcarrier) is a.is,
+      subst (λ (d : Device). c.in-Is.r ≡ role d (plan_of g.plan.now) g.phase g.subcarrier) is a.is,
     )
 
 pub returns-in-Refused : goal.returns-in-Refused
@@ -34,6 +33,5 @@ returns-in-Refused c =
 pub returns-in-Is : goal.returns-in-Is
 returns-in-Is c =
     let g = c.args in
-    let r = c.r-1.given in
-    c.with_reason.ensures ∙ ap (λ (d : Device). with_reason d g.plan.now g.subcarrier g.phase r.0.0) c.khz50_device.ensures
-    ∙ sym (why_is khz50 g.plan.now g.subcarrier g.phase _ (sym c.role.ensures ∙ r.1))
+    c.with_reason.ensures ∙ ap (λ (d : Device). with_reason d g.plan.now g.subcarrier g.phase c.in-Is.r) c.khz50_device.ensures
+    ∙ sym (why_is khz50 g.plan.now g.subcarrier g.phase _ (sym c.role.ensures ∙ c.in-Is.is))
