@@ -1,5 +1,4 @@
 -- `arrivals::fitting_cells` meets its contract. The loop has counted among the first k cells. Assumes nothing.
-use Prim.Native.Nat.{◌-◌}
 use mathlib.Core.Path.{◌≡◌, refl}
 use native.Mathlib.Omega.{arith}
 use lib.ListN.{length}

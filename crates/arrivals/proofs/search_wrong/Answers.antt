@@ -1,5 +1,4 @@
 -- `arrivals::search_wrong` meets its contract. The loop has passed `place` cells, all of which fit. Assumes nothing.
-use Prim.Native.Nat.{◌-◌}
 use mathlib.Core.Path.{◌≡◌, sym}
 use mathlib.Core.Bool.{not}
 use native.Mathlib.Numerals.{add-one}

@@ -12,13 +12,13 @@ use Rattle.startgrounds.specs.Admit.{phase_verdict, none}
 use Rattle.places.proofs.Sizes.{receiver_places_are}
 use Rattle.startgrounds.proofs.Starts.{few, receiver_small, StartInOrder, in_order, by_earlier, by_store, by_none, receiver_refused, receiver_counted, depth_small}
 use Rattle.startgrounds.proofs.admit_receiver.Goals as goal
-use Rattle.startgrounds.proofs.admit_receiver.Goals.{After-number_at-m, After-receiver_places-need, In-Accepted-2}
+use Rattle.startgrounds.proofs.admit_receiver.Goals.{After-number_at-m, After-receiver_places-need, In-Accepted}
 
 -- no ground of 1 to 16 holds
-accepted : (c : In-Accepted-2) → Accepted c.in-Accepted.n ≡ phase_verdict c.args.d c.args.plan.now c.args.phase
+accepted : (c : In-Accepted) → Accepted c.in-Accepted.n ≡ phase_verdict c.args.d c.args.plan.now c.args.phase
 accepted c = sym c.in-Accepted.is ∙ c.admit.ensures.answer
 
-known : (c : In-Accepted-2) → StartInOrder c.args.d c.args.plan.now c.args.phase c.in-Accepted.n
+known : (c : In-Accepted) → StartInOrder c.args.d c.args.plan.now c.args.phase c.in-Accepted.n
 known c = let a = c.args in in_order a.d a.plan.now a.phase _ (accepted c)
 
 -- the depth
@@ -42,7 +42,7 @@ small c =
     (omega (arith, deep c, depth.0), omega (arith, deep c, depth.1), few g.args.d g.args.plan.now _ g.requires.0 ((let it : StartInOrder k.args.d k.args.plan.now k.args.phase k.in-Accepted.n = let a = k.args in in_order a.d a.plan.now a.phase _ ((let it : Accepted k.in-Accepted.n ≡ phase_verdict k.args.d k.args.plan.now k.args.phase = sym k.in-Accepted.is ∙ k.admit.ensures.answer in it)) in it)).all)
 
 pub number_at-m-requires : goal.number_at-m-requires
-number_at-m-requires c = omega (arith, (known (goal.at.number_at-m-requires c).In-Accepted-2).long)
+number_at-m-requires c = omega (arith, (known c).long)
 
 pub receiver_places-need-requires : goal.receiver_places-need-requires
 receiver_places-need-requires c = ((small c).0, omega (arith, (small c).1), (small c).2)
@@ -51,7 +51,7 @@ pub returns-then-places-need : goal.returns-then-places-need
 returns-then-places-need c =
     let k = c in
     let a = k.args in
-    λ s e. receiver_refused a.d a.plan.now a.phase s _ _ (by_store receiver_places none a.d a.plan.now a.phase s _ (accepted (goal.at.returns-then-places-need c).In-Accepted-2) (omega (arith, e, need (goal.at.returns-then-places-need c).After-receiver_places-need, c.if-places-need.true)))
+    λ s e. receiver_refused a.d a.plan.now a.phase s _ _ (by_store receiver_places none a.d a.plan.now a.phase s _ (accepted (goal.at.returns-then-places-need c).In-Accepted) (omega (arith, e, need (goal.at.returns-then-places-need c).After-receiver_places-need, c.if-places-need.true)))
 
 pub overflow_cast-number : goal.overflow_cast-number
 overflow_cast-number c =
@@ -67,4 +67,4 @@ pub returns-else-places-need : goal.returns-else-places-need
 returns-else-places-need c =
     let k = c in
     let a = k.args in
-    λ s e. receiver_counted a.d a.plan.now a.phase s _ (need (goal.at.returns-else-places-need c).After-receiver_places-need) (by_none receiver_places none a.d a.plan.now a.phase s _ (accepted (goal.at.returns-else-places-need c).In-Accepted-2) (omega (arith, e, need (goal.at.returns-else-places-need c).After-receiver_places-need, c.if-places-need.false)) (omega arith))
+    λ s e. receiver_counted a.d a.plan.now a.phase s _ (need (goal.at.returns-else-places-need c).After-receiver_places-need) (by_none receiver_places none a.d a.plan.now a.phase s _ (accepted (goal.at.returns-else-places-need c).In-Accepted) (omega (arith, e, need (goal.at.returns-else-places-need c).After-receiver_places-need, c.if-places-need.false)) (omega arith))
