@@ -1,5 +1,5 @@
 -- `figureflushes::put_placeholders` meets its contract. The placeholders of the cells below p are put. Assumes nothing.
-use Prim.Native.Nat.{◌+◌, ◌*◌, ◌-◌, ◌≤◌, ◌<◌}
+use Prim.Native.Nat.{◌+◌, ◌*◌, ◌≤◌, ◌<◌}
 use mathlib.Core.Path.{◌≡◌}
 use native.Mathlib.Omega.{arith}
 use lib.ListN.{length}
@@ -56,7 +56,7 @@ pub overflow_add-begins : goal.overflow_add-begins
 overflow_add-begins c = let f = fits (goal.at.overflow_add-begins c).In-loop-p in omega (arith, f.1, f.2)
 
 pub overflow_add-line-in-loop-p : goal.overflow_add-line-in-loop-p
-overflow_add-line-in-loop-p c = add-if1 (goal.at.overflow_add-line-in-loop-p c).After-slice_known-in-loop-p-1
+overflow_add-line-in-loop-p c = omega (arith, c.loop-p.invariant.low, c.requires.1)
 
 pub loop-p-smaller : goal.loop-p-smaller
 loop-p-smaller c = omega (arith, c.loop-p-test.true)
