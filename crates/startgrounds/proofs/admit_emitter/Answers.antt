@@ -113,7 +113,7 @@ returns-in-Refused c =
 pub returns-else-places-places_27 : goal.returns-else-places-places_27
 returns-else-places-places_27 c =
     let k = c in
-    let g = c in
+    let g = k in
     let a = g.args in
     let made = c.spots in
     let same = made.auto.kc ∙ size (goal.at.returns-else-places-places_27 c).In-Accepted in record {
