@@ -7,7 +7,6 @@ use mathlib.Core.Logic.{by_cases}
 use native.Mathlib.Decide.{dec_lt}
 use native.Mathlib.Omega.{arith}
 use lib.ListN.{length, take, drop}
-use lib.Seq.{sets}
 use Rattle.rules.specs.Bits.{value, total, cell_bits, cells_from, stream_bits, with_bits, filled_from, unfilled_into}
 use Rattle.bits.proofs.FillLaws.{length_bits}
 

@@ -42,7 +42,7 @@ places_from c =
 
 -- the cells fit the array
 low : (c : tie.After-n) → c.n.given.0.0 ≤ length c.before.before.before.admit-emitter.new.1.1.1.1.0
-low c = omega (arith, few (device c) (start c).args.plan.now _ (places_from c).ranges (known c).0.all, c.before.before.before.admit-emitter.auto.1.1.1.1.0)
+low c = omega (arith, few (device c) (start c).args.plan.now _ (places_from c).fits (known c).0.all, c.before.before.before.admit-emitter.auto.1.1.1.1.0)
 
 size : (c : tie.After-n) → length (take c.n.given.0.0 c.before.before.before.admit-emitter.new.1.1.1.1.0) ≡ c.n.given.0.0
 size c = length-take-le _ _ (low c)
