@@ -1,10 +1,13 @@
 // What the programs read from standard input or a file, the lines that they print, and what they tell standard error where either fails. No
-// contract can say what is read or written; those here say how many bytes were read, and which number bytes are.
+// contract can say which bytes a file or a terminal gives or takes. Those here say what is done with the bytes of any reader and any writer that
+// tell them: which were read, in which order, and that a line which was printed says its text and its numbers.
 #![tactic(auto)]
 
-ghost use Rattle.std.specs.Prelude.{◌≤◌, min, ◌≡◌, length, get_or, take, IsTrue};
+ghost use Rattle.std.specs.Prelude.{◌≤◌, min, ◌≡◌, length, get_or, take, IsTrue, [], ◌∷◌};
 ghost use Rattle.std.specs.Io.KnownBytes.{Consumes, Appends};
 ghost use Rattle.io.specs.Counts.{IsPrefixLen};
+ghost use Rattle.text.specs.Text.{decimal};
+ghost use Rattle.console.specs.Printed.{piece, used, printed, refused};
 ghost use Rattle.console.specs.Number.{number, number_at};
 ghost use Rattle.console.specs.Reading.{Holds, HoldsFrom, Takes, TakesFrom};
 
@@ -184,7 +187,9 @@ pub fn print<I, O: Write, E: Write>(
 }
 
 // The number at a place, 0 past the end.
-fn at(numbers: [u32; 7], place: usize) -> u32 {
+fn at(numbers: [u32; 7], place: usize) -> u32
+    ensures { result ≡ get_or numbers place 0 }
+{
     if place < 7 {
         return numbers[place];
     }
@@ -196,10 +201,38 @@ fn print_number<I, O: Write, E: Write>(
     streams: &mut Streams<I, O, E>,
     program: &[u8],
     n: u32,
-) -> bool {
+) -> bool
+    ensures { IsTrue result → Appends (O.contents streams.old.output) (O.contents streams.new.output) (decimal n) }
+{
     let mut digits = [0; 20];
     let k = io::decimal(n as u64, &mut digits);
     print(streams, program, &digits[..k])
+}
+
+// Prints a byte of a text, a # as the number.
+fn print_piece<I, O: Write, E: Write>(
+    streams: &mut Streams<I, O, E>,
+    program: &[u8],
+    byte: u8,
+    n: u32,
+) -> bool
+    ensures { IsTrue result → Appends (O.contents streams.old.output) (O.contents streams.new.output) (piece byte n) }
+{
+    if byte == b'#' {
+        return print_number(streams, program, n);
+    }
+    print(streams, program, &[byte])
+}
+
+// How many numbers a byte of a text uses up.
+fn uses(byte: u8) -> usize
+    ensures value { result ≡ used byte }
+    ensures most { result ≤ 1 }
+{
+    if byte == b'#' {
+        return 1;
+    }
+    0
 }
 
 // Prints a text in which each # stands for the next of the numbers; false where it was not written to its end, which is told.
@@ -208,19 +241,17 @@ pub fn print_line<I, O: Write, E: Write>(
     program: &[u8],
     text: &[u8],
     numbers: [u32; 7],
-) -> bool {
+) -> bool
+    ensures { IsTrue result → Appends (O.contents streams.old.output) (O.contents streams.new.output) (printed text.now numbers) }
+{
     let mut next: usize = 0;
     let mut i: usize = 0;
     while i < text.len() {
         let byte = text[i];
-        if byte == b'#' {
-            if !print_number(streams, program, at(numbers, next)) {
-                return false;
-            }
-            next += 1;
-        } else if !print(streams, program, &[byte]) {
+        if !print_piece(streams, program, byte, at(numbers, next)) {
             return false;
         }
+        next += uses(byte);
         i += 1;
     }
     true
@@ -233,7 +264,9 @@ pub fn print_refused<I, O: Write, E: Write>(
     number: u32,
     place: u32,
     sum: u32,
-) -> bool {
+) -> bool
+    ensures { IsTrue result → Appends (O.contents streams.old.output) (O.contents streams.new.output) (printed refused (number ∷ place ∷ sum ∷ 0 ∷ 0 ∷ 0 ∷ 0 ∷ [])) }
+{
     print_line(
         streams,
         program,
