@@ -37,11 +37,9 @@ const LOAD: u8 = 14;
 // The checksum of N_D at all phases, and at two numbers that are none.
 fn mixed_counts(plan: &[u8]) -> u32 {
     let mut mix: u32 = 0;
-    let mut j: u32 = 0;
-    while j < 129 {
+    for j in 0..129u32 {
         let next = sums::mixed_count(mix, cells::data_count(plan, j));
         mix = next;
-        j += 1;
     }
     sums::mixed_count(mix, cells::data_count(plan, 4294967295))
 }
@@ -87,11 +85,9 @@ fn steps(start: Run, plan: &[u8], need: usize, bytes: &[u8], store: &mut [u16; S
     let profile = [LOAD; SYMBOL];
     let mut symbol = [BEFORE; ROOM];
     let mut run = start;
-    let mut i: usize = 0;
-    while i < bytes.len() {
+    for i in 0..bytes.len() {
         let next = step(run, bytes[i], plan, &profile, need, store, &mut symbol);
         run = next;
-        i += 1;
     }
     run
 }
@@ -211,11 +207,9 @@ fn one_case(streams: &mut Standard) -> bool {
 // The lines of up to 1000 cases.
 fn main(rt: HostRuntime) {
     let mut streams = console::standard(&rt);
-    let mut left: u32 = 1000;
-    while 0 < left {
+    for _ in 0..1000u32 {
         if !one_case(&mut streams) {
             return;
         }
-        left -= 1;
     }
 }

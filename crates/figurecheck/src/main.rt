@@ -75,15 +75,13 @@ fn runs(streams: &mut Standard, begun: Pair, plan: &[u8]) -> Pair {
     let mut first = [0u16; STORE];
     let mut second = [0u16; STORE];
     let mut pair = begun;
-    let mut left = (2 * (begun.depth as u64) + 3) * 128;
-    while 0 < left {
+    for _ in 0..(2 * (begun.depth as u64) + 3) * 128 {
         let fresh_pair = fresh(streams, pair, plan, &mut first, &mut second);
         let next = one_symbol(streams, fresh_pair, plan, &mut first, &mut second);
         pair = next;
         if !pair.same {
             return pair;
         }
-        left -= 1;
     }
     pair
 }

@@ -63,11 +63,9 @@ fn load_of(index: u32) -> u8 {
 pub(crate) fn make_profile(head: Head, profile: &mut [u8; PROFILE]) {
     let step = head.step % 11;
     let mut index = head.turn % 11;
-    let mut k: usize = 0;
-    while k < PROFILE {
+    for k in 0..PROFILE {
         profile[k] = load_of(index);
         index = (index + step) % 11;
-        k += 1;
     }
 }
 
@@ -82,12 +80,10 @@ pub(crate) fn make_stream(seed: u32, stream: &mut [u8; STREAM]) {
         return;
     }
     let mut x = seed;
-    let mut i: usize = 0;
-    while i < STREAM {
+    for i in 0..STREAM {
         let next = drawn(x);
         x = next;
         stream[i] = (next % 256) as u8;
-        i += 1;
     }
 }
 

@@ -51,11 +51,9 @@ fn wide(x: u8) -> u32 {
 // The checksum with bytes more.
 fn mixed_bytes(sum: u32, bytes: &[u8]) -> u32 {
     let mut mix = sum;
-    let mut i: usize = 0;
-    while i < bytes.len() {
-        let next = sums::mixed(mix, wide(bytes[i]));
+    for byte in bytes {
+        let next = sums::mixed(mix, wide(*byte));
         mix = next;
-        i += 1;
     }
     mix
 }
@@ -279,8 +277,7 @@ fn acts(
     given::make_profile(head, &mut profile);
     given::make_stream(head.seed, &mut stream);
     let mut run = begun;
-    let mut left = head.acts;
-    while 0 < left {
+    for _ in 0..head.acts {
         let act = given::next_act(streams);
         if !act.read {
             run.read = false;
@@ -294,7 +291,6 @@ fn acts(
         next = receive(next, act, plan, &profile, listening, &mut line, &mut handed);
         run = next;
         given::changed_load(&mut profile, old);
-        left -= 1;
     }
     run
 }
@@ -375,11 +371,9 @@ fn one_case(streams: &mut Standard) -> bool {
 // The lines of up to 1000 cases.
 fn main(rt: HostRuntime) {
     let mut streams = console::standard(&rt);
-    let mut left: u32 = 1000;
-    while 0 < left {
+    for _ in 0..1000u32 {
         if !one_case(&mut streams) {
             return;
         }
-        left -= 1;
     }
 }

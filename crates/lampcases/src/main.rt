@@ -47,11 +47,9 @@ fn number(x: u8) -> u32 {
 // The checksum with some bytes more.
 fn mixed_bytes(sum: u32, bytes: &[u8]) -> u32 {
     let mut mix = sum;
-    let mut i: usize = 0;
-    while i < bytes.len() {
-        let next = sums::mixed(mix, number(bytes[i]));
+    for byte in bytes {
+        let next = sums::mixed(mix, number(*byte));
         mix = next;
-        i += 1;
     }
     mix
 }
@@ -69,10 +67,8 @@ fn at_most(n: usize, cells: &[u16]) -> usize
 // How many lights are lit.
 fn lit_of(lights: &[u8]) -> u32 {
     let mut lit: u32 = 0;
-    let mut i: usize = 0;
-    while i < lights.len() {
-        lit = std::num::wrapping_add_u32(lit, number(lights[i]));
-        i += 1;
+    for light in lights {
+        lit = std::num::wrapping_add_u32(lit, number(*light));
     }
     lit
 }
@@ -90,10 +86,8 @@ fn change(changes: &[u8], i: u32, t: u32, symbol: &mut [u16]) {
 
 // Makes the changes of symbol t, in their order.
 fn change_all(case: Case, changes: &[u8], t: u32, symbol: &mut [u16]) {
-    let mut i: u32 = 0;
-    while i < case.changes {
+    for i in 0..case.changes {
         change(changes, i, t, symbol);
-        i += 1;
     }
 }
 
@@ -120,12 +114,10 @@ fn steps(
     counts: &mut [u8],
 ) -> Run {
     let mut run = begun;
-    let mut t: u32 = 0;
-    while t < case.symbols {
+    for t in 0..case.symbols {
         change_all(case, changes, t, symbol);
         let next = step(run, plan, symbol, counts);
         run = next;
-        t += 1;
     }
     run
 }
@@ -218,11 +210,9 @@ fn one_case(streams: &mut Standard) -> bool {
 // The lines of up to 10,000 cases.
 fn main(rt: HostRuntime) {
     let mut streams = console::standard(&rt);
-    let mut left: u32 = 10000;
-    while 0 < left {
+    for _ in 0..10000u32 {
         if !one_case(&mut streams) {
             return;
         }
-        left -= 1;
     }
 }

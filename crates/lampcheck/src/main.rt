@@ -15,7 +15,7 @@ const SYMBOL: usize = 8192;
 const RECORD: usize = 129;
 
 // No more symbols are read than this, far more than any input has.
-const MOST: u64 = 18446744073709551615;
+const MOST: u64 = u64::MAX;
 
 // Prints the line of a refused plan.
 fn print_refused(streams: &mut Standard, number: u32, place: u32) -> bool {
@@ -101,12 +101,10 @@ fn next_symbol(
 
 // Has the lamp hear one symbol after the other.
 fn hear_input(streams: &mut Standard, plan: &[u8], list: &[u16; PILOTS], counts: &mut [u8]) {
-    let mut left: u64 = MOST;
-    while 0 < left {
-        if !next_symbol(streams, plan, list, left == MOST, counts) {
+    for i in 0..MOST {
+        if !next_symbol(streams, plan, list, i == 0, counts) {
             return;
         }
-        left -= 1;
     }
 }
 

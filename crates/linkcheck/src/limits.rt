@@ -11,10 +11,8 @@ fn raised(x: u16) -> u16 {
 
 // The same of all cells.
 fn raise(limits: &mut [u16]) {
-    let mut c: usize = 0;
-    while c < limits.len() {
+    for c in 0..limits.len() {
         limits[c] = raised(limits[c]);
-        c += 1;
     }
 }
 

@@ -144,8 +144,7 @@ fn runs(
     let mut sent = [0u16; STORE];
     let mut heard = [0u16; STORE];
     let mut link = begun;
-    let mut left = (2 * (begun.depth as u64) + 3) * 128;
-    while 0 < left {
+    for _ in 0..(2 * (begun.depth as u64) + 3) * 128 {
         let fresh_link = fresh(streams, link, plan, &mut sent, &mut heard);
         let next = one_symbol(
             streams, fresh_link, plan, profile, counts, &mut sent, &mut heard,
@@ -154,18 +153,15 @@ fn runs(
         if !link.right {
             return link;
         }
-        left -= 1;
     }
     link
 }
 
 // Puts N_D at every phase into the counts.
 fn count_all(plan: &[u8], counts: &mut [u16; PHASES]) {
-    let mut j: u32 = 0;
-    while j < 128 {
+    for j in 0..128u32 {
         let nd = trials::data_count(plan, j);
         samples::swap(counts, j as usize, (nd % 65536) as u16);
-        j += 1;
     }
 }
 

@@ -55,13 +55,11 @@ fn cell_of(r: u16) -> u16 {
 // Cells, loads and sign bytes from a seed.
 fn draw(x: u32, symbol: &mut [u16; ROOM], loads: &mut [u8; ROOM], minus: &mut [u8; ROOM]) {
     samples::draw(x, ROOM, symbol);
-    let mut k: usize = 0;
-    while k < ROOM {
+    for k in 0..ROOM {
         let r = symbol[k];
         symbol[k] = cell_of(r);
         loads[k] = load_of(r);
         minus[k] = sign_of(r);
-        k += 1;
     }
 }
 
@@ -161,11 +159,9 @@ fn one_case(streams: &mut Standard, out: &mut [f32]) -> bool {
 fn main(rt: HostRuntime) {
     let mut streams = console::standard(&rt);
     let mut out = [0.75f32; NUMBERS];
-    let mut left: u32 = 1000;
-    while 0 < left {
+    for _ in 0..1000u32 {
         if !one_case(&mut streams, &mut out) {
             return;
         }
-        left -= 1;
     }
 }

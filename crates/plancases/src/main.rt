@@ -30,11 +30,9 @@ fn one_case(streams: &mut Standard) -> bool {
 // The lines of up to 1000 cases.
 fn main(rt: HostRuntime) {
     let mut streams = console::standard(&rt);
-    let mut left: u32 = 1000;
-    while 0 < left {
+    for _ in 0..1000u32 {
         if !one_case(&mut streams) {
             return;
         }
-        left -= 1;
     }
 }

@@ -31,11 +31,9 @@ fn mixed_point(sum: u32, load: u32, value: u32) -> u32 {
 // The checksum of the points of all values.
 fn all_points(load: u32) -> u32 {
     let mut sum: u32 = 0;
-    let mut v: u32 = 0;
-    while v < 16401 {
+    for v in 0..16401u32 {
         let next = mixed_point(sum, load, v);
         sum = next;
-        v += 1;
     }
     mixed_point(mixed_point(sum, load, 65536), load, 4294967295)
 }
@@ -59,11 +57,9 @@ fn all_scaled(load: u32) -> u32 {
         RootAnswer::Root(d) => d,
         RootAnswer::Refused(number, place) => mixed_refusal(0, number, place),
     };
-    let mut v: u32 = 0;
-    while v < 16401 {
+    for v in 0..16401u32 {
         let next = mixed_scaled(sum, load, v);
         sum = next;
-        v += 1;
     }
     mixed_scaled(mixed_scaled(sum, load, 65536), load, 4294967295)
 }
@@ -93,11 +89,9 @@ fn mixed_value(sum: u32, load: u32, x: i32, y: i32) -> u32 {
 // The checksum with the values of all points of a first coordinate more.
 fn row_of_values(sum: u32, load: u32, x: i32) -> u32 {
     let mut mix = sum;
-    let mut k: u32 = 0;
-    while k < 263 {
+    for k in 0..263u32 {
         let next = mixed_value(mix, load, x, coordinate(k));
         mix = next;
-        k += 1;
     }
     mix
 }
@@ -105,11 +99,9 @@ fn row_of_values(sum: u32, load: u32, x: i32) -> u32 {
 // The checksum of the values of all points.
 fn all_values(load: u32) -> u32 {
     let mut sum: u32 = 0;
-    let mut k: u32 = 0;
-    while k < 263 {
+    for k in 0..263u32 {
         let next = row_of_values(sum, load, coordinate(k));
         sum = next;
-        k += 1;
     }
     sum
 }
@@ -140,11 +132,9 @@ fn mixed_cell(sum: u32, cell: u16, load: u32) -> u32 {
 // The checksum of what stands on the line for all cells.
 fn all_lines(load: u32) -> u32 {
     let mut sum: u32 = 0;
-    let mut cell: u16 = 32766;
-    while cell < 32776 {
+    for cell in 32766..32776u16 {
         let next = mixed_cell(sum, cell, load);
         sum = next;
-        cell += 1;
     }
     mixed_cell(mixed_cell(mixed_cell(sum, 65535, load), 0, load), 1, load)
 }
@@ -170,11 +160,9 @@ const LOADS: [u32; 20] = [
 
 fn main(rt: HostRuntime) {
     let mut streams = console::standard(&rt);
-    let mut i: usize = 0;
-    while i < 20 {
+    for i in 0..20usize {
         if !print_load(&mut streams, LOADS[i]) {
             return;
         }
-        i += 1;
     }
 }

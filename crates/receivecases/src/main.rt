@@ -199,8 +199,7 @@ fn acts(
     let mut line = [BEFORE; LINE];
     let mut buffer = [BEFORE; SYMBOL];
     let mut run = begun;
-    let mut left = count;
-    while 0 < left {
+    for _ in 0..count {
         let given = next_act(streams);
         if !given.read {
             run.read = false;
@@ -217,7 +216,6 @@ fn acts(
             &mut buffer,
         );
         run = next;
-        left -= 1;
     }
     run
 }
@@ -332,11 +330,9 @@ fn one_case(streams: &mut Standard) -> bool {
 // The lines of up to 1000 cases.
 fn main(rt: HostRuntime) {
     let mut streams = console::standard(&rt);
-    let mut left: u32 = 1000;
-    while 0 < left {
+    for _ in 0..1000u32 {
         if !one_case(&mut streams) {
             return;
         }
-        left -= 1;
     }
 }

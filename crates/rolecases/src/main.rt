@@ -58,11 +58,9 @@ fn asked(mut tally: [u32; 7], plan: &[u8], k: u32, phase: u32) -> [u32; 7] {
 // The tally of a plan at a phase, over all subcarriers and three numbers that are none.
 fn tally_of(plan: &[u8], phase: u32) -> [u32; 7] {
     let mut tally = [0u32; 7];
-    let mut k: u32 = 0;
-    while k < 4097 {
+    for k in 0..4097u32 {
         let next = asked(tally, plan, k, phase);
         tally = next;
-        k += 1;
     }
     let more = asked(tally, plan, 66388, phase);
     asked(more, plan, 4294967295, phase)
@@ -97,12 +95,10 @@ fn one_case(streams: &mut Standard) -> bool {
 // The checksum of the predefined pilots of every L.
 fn all_pilots() -> u32 {
     let mut sum: u32 = 0;
-    let mut l: u32 = 0;
-    while l < 65536 {
+    for l in 0..65536u32 {
         let pilots = roles::predefined_pilots(l as u16);
         let next = sums::mixed_cells(sum, &pilots, 8);
         sum = next;
-        l += 1;
     }
     sum
 }
@@ -118,11 +114,9 @@ fn main(rt: HostRuntime) {
     ) {
         return;
     }
-    let mut left: u32 = 1000;
-    while 0 < left {
+    for _ in 0..1000u32 {
         if !one_case(&mut streams) {
             return;
         }
-        left -= 1;
     }
 }

@@ -41,11 +41,9 @@ fn one_case(streams: &mut Standard) -> bool {
 // The lines of up to 10,000 cases.
 fn main(rt: HostRuntime) {
     let mut streams = console::standard(&rt);
-    let mut left: u32 = 10000;
-    while 0 < left {
+    for _ in 0..10000u32 {
         if !one_case(&mut streams) {
             return;
         }
-        left -= 1;
     }
 }
