@@ -77,18 +77,26 @@ pub fn read_open<R: Read>(reader: &mut R, bytes: &mut [u8]) -> Input
 pub fn read<I: Read, O, E>(streams: &mut Streams<I, O, E>, bytes: &mut [u8]) -> Input
     ensures holds { Holds result bytes.new }
     ensures takes { Takes (I.remaining streams.old.input) (I.remaining streams.new.input) result bytes.new }
+    ensures output { streams.new.output ≡ streams.old.output }
+    ensures errors { streams.new.errors ≡ streams.old.errors }
 {
     read_open(&mut streams.input, bytes)
 }
 
 // Tells what the program of this name could not do, or what it expects.
-pub fn tell<I, O, E: Write>(streams: &mut Streams<I, O, E>, program: &[u8], what: &[u8]) {
+pub fn tell<I, O, E: Write>(streams: &mut Streams<I, O, E>, program: &[u8], what: &[u8])
+    ensures input { streams.new.input ≡ streams.old.input }
+    ensures output { streams.new.output ≡ streams.old.output }
+{
     let _ = streams.errors.write_all(program);
     let _ = streams.errors.write_all(what);
 }
 
 // Tells that a read of standard input failed.
-pub fn tell_unread<I, O, E: Write>(streams: &mut Streams<I, O, E>, program: &[u8]) {
+pub fn tell_unread<I, O, E: Write>(streams: &mut Streams<I, O, E>, program: &[u8])
+    ensures input { streams.new.input ≡ streams.old.input }
+    ensures output { streams.new.output ≡ streams.old.output }
+{
     tell(streams, program, b": standard input cannot be read\n");
 }
 
@@ -98,7 +106,8 @@ pub fn fill<I: Read, O, E: Write>(
     program: &[u8],
     bytes: &mut [u8],
 ) -> bool
-    ensures { IsTrue result → Consumes (I.remaining streams.old.input) (I.remaining streams.new.input) bytes.new }
+    ensures takes { IsTrue result → Consumes (I.remaining streams.old.input) (I.remaining streams.new.input) bytes.new }
+    ensures output { streams.new.output ≡ streams.old.output }
 {
     match read(streams, bytes) {
         Input::Bytes(n) => n == bytes.len(),
@@ -110,7 +119,10 @@ pub fn fill<I: Read, O, E: Write>(
 }
 
 // Reads on into the space; false where the input has ended or a read failed.
-fn read_more<I: Read, O, E>(streams: &mut Streams<I, O, E>, space: &mut [u8]) -> bool {
+fn read_more<I: Read, O, E>(streams: &mut Streams<I, O, E>, space: &mut [u8]) -> bool
+    ensures output { streams.new.output ≡ streams.old.output }
+    ensures errors { streams.new.errors ≡ streams.old.errors }
+{
     match read(streams, space) {
         Input::Bytes(n) => 0 < n,
         Input::Failed => false,
@@ -118,13 +130,14 @@ fn read_more<I: Read, O, E>(streams: &mut Streams<I, O, E>, space: &mut [u8]) ->
 }
 
 // Reads on into the space, over and over, until the input ends, a read fails or it was filled 1,024 times.
-pub fn read_on<I: Read, O, E>(streams: &mut Streams<I, O, E>, space: &mut [u8]) {
-    let mut left: u32 = 1024;
-    while 0 < left {
+pub fn read_on<I: Read, O, E>(streams: &mut Streams<I, O, E>, space: &mut [u8])
+    ensures output { streams.new.output ≡ streams.old.output }
+    ensures errors { streams.new.errors ≡ streams.old.errors }
+{
+    for _ in 0..1024u32 {
         if !read_more(streams, space) {
             return;
         }
-        left -= 1;
     }
 }
 
@@ -175,7 +188,8 @@ pub fn print<I, O: Write, E: Write>(
     program: &[u8],
     bytes: &[u8],
 ) -> bool
-    ensures { IsTrue result → Appends (O.contents streams.old.output) (O.contents streams.new.output) bytes.now }
+    ensures prints { IsTrue result → Appends (O.contents streams.old.output) (O.contents streams.new.output) bytes.now }
+    ensures input { streams.new.input ≡ streams.old.input }
 {
     match streams.output.write_all(bytes) {
         Ok(()) => true,
@@ -202,7 +216,8 @@ fn print_number<I, O: Write, E: Write>(
     program: &[u8],
     n: u32,
 ) -> bool
-    ensures { IsTrue result → Appends (O.contents streams.old.output) (O.contents streams.new.output) (decimal n) }
+    ensures prints { IsTrue result → Appends (O.contents streams.old.output) (O.contents streams.new.output) (decimal n) }
+    ensures input { streams.new.input ≡ streams.old.input }
 {
     let mut digits = [0; 20];
     let k = io::decimal(n as u64, &mut digits);
@@ -216,7 +231,8 @@ fn print_piece<I, O: Write, E: Write>(
     byte: u8,
     n: u32,
 ) -> bool
-    ensures { IsTrue result → Appends (O.contents streams.old.output) (O.contents streams.new.output) (piece byte n) }
+    ensures prints { IsTrue result → Appends (O.contents streams.old.output) (O.contents streams.new.output) (piece byte n) }
+    ensures input { streams.new.input ≡ streams.old.input }
 {
     if byte == b'#' {
         return print_number(streams, program, n);
@@ -242,7 +258,8 @@ pub fn print_line<I, O: Write, E: Write>(
     text: &[u8],
     numbers: [u32; 7],
 ) -> bool
-    ensures { IsTrue result → Appends (O.contents streams.old.output) (O.contents streams.new.output) (printed text.now numbers) }
+    ensures prints { IsTrue result → Appends (O.contents streams.old.output) (O.contents streams.new.output) (printed text.now numbers) }
+    ensures input { streams.new.input ≡ streams.old.input }
 {
     let mut next: usize = 0;
     let mut i: usize = 0;
@@ -265,7 +282,8 @@ pub fn print_refused<I, O: Write, E: Write>(
     place: u32,
     sum: u32,
 ) -> bool
-    ensures { IsTrue result → Appends (O.contents streams.old.output) (O.contents streams.new.output) (printed refused (number ∷ place ∷ sum ∷ 0 ∷ 0 ∷ 0 ∷ 0 ∷ [])) }
+    ensures prints { IsTrue result → Appends (O.contents streams.old.output) (O.contents streams.new.output) (printed refused (number ∷ place ∷ sum ∷ 0 ∷ 0 ∷ 0 ∷ 0 ∷ [])) }
+    ensures input { streams.new.input ≡ streams.old.input }
 {
     print_line(
         streams,

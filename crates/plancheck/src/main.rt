@@ -3,26 +3,51 @@
 // A longer input than any plan is read on, up to 64 MiB, so that its writer can finish.
 #![tactic(auto)]
 
-use console::{Input, Standard};
+ghost use Rattle.std.specs.Prelude.{◌≡◌, take, IsTrue, IfSome};
+ghost use Rattle.std.specs.Io.KnownBytes.{Appends};
+ghost use Rattle.report.specs.PlanLine.{plan_line};
 
-// Prints the line of a plan.
-fn print_plan(streams: &mut Standard, plan: &[u8]) {
+use console::{Input, Streams};
+use std::io::{Read, Write};
+
+// Prints the line of a plan; false where it was not written.
+fn print_plan<I, O: Write, E: Write>(streams: &mut Streams<I, O, E>, plan: &[u8]) -> bool
+    ensures { IsTrue result → Appends (O.contents streams.old.output) (O.contents streams.new.output) (plan_line plan.now) }
+{
     let line = report::plan_line(plan);
     let text = line.text;
     let len = line.len;
-    console::print(streams, b"plancheck", &text[..len]);
+    console::print(streams, b"plancheck", &text[..len])
+}
+
+// Reads on after so many bytes, if they were all that is taken.
+fn read_rest<I: Read, O, E>(streams: &mut Streams<I, O, E>, n: usize, space: &mut [u8])
+    ensures { streams.new.output ≡ streams.old.output }
+{
+    if n == 65536 {
+        console::read_on(streams, space);
+    }
+}
+
+// Reads a plan and prints its line; false where it was not read or not written. The line is that of the first 65,536 bytes of the input.
+fn check_input<I: Read, O: Write, E: Write>(streams: &mut Streams<I, O, E>) -> bool
+    ensures { IsTrue result → IfSome (I.remaining streams.old.input)
+        (λ xs. Appends (O.contents streams.old.output) (O.contents streams.new.output) (plan_line (take 65536 xs))) }
+{
+    let mut buf = io::large_buffer();
+    match console::read(streams, &mut buf) {
+        Input::Failed => {
+            console::tell_unread(streams, b"plancheck");
+            false
+        }
+        Input::Bytes(n) => {
+            let printed = print_plan(streams, &buf[..n]);
+            read_rest(streams, n, &mut buf);
+            printed
+        }
+    }
 }
 
 fn main(rt: HostRuntime) {
-    let mut streams = console::standard(&rt);
-    let mut buf = io::large_buffer();
-    match console::read(&mut streams, &mut buf) {
-        Input::Failed => console::tell_unread(&mut streams, b"plancheck"),
-        Input::Bytes(n) => {
-            print_plan(&mut streams, &buf[..n]);
-            if n == 65536 {
-                console::read_on(&mut streams, &mut buf);
-            }
-        }
-    }
+    check_input(&mut console::standard(&rt));
 }

@@ -1,5 +1,5 @@
 -- What was printed so far, and what the rest of the text prints, is the whole line.
-use Rattle.std.proofs.Common.{◌-◌, ◌≤◌, length}
+use Rattle.std.proofs.Common.{◌≡◌, ◌-◌, ◌≤◌, length}
 use Rattle.console.proofs.Printing.{PrintedTo}
 use Rattle.console.proofs.print_line.Given as goal
 
@@ -7,6 +7,7 @@ abbrev pub invariant-loop-i : goal.invariant-loop-i
 invariant-loop-i g l = record {
   count : l.next ≤ l.i;
   within : l.i ≤ length l.text;
+  input : l.streams.input ≡ l.initial.streams.input;
   done : PrintedTo (g.O.Write.contents l.initial.streams.output) (g.O.Write.contents l.streams.output) l.text l.numbers l.i l.next;
 }
 

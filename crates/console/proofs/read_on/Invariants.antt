@@ -1,5 +1,9 @@
--- The turns that are left fall.
+-- Reading on leaves the output, and where failures are told, as they were.
+use Rattle.std.proofs.Common.{◌≡◌}
 use Rattle.console.proofs.read_on.Given as goal
 
-abbrev pub decreases-loop-left : goal.decreases-loop-left
-decreases-loop-left g l = l.left
+abbrev pub invariant-loop : goal.invariant-loop
+invariant-loop g l = record {
+  output : l.streams.output ≡ l.initial.streams.output;
+  errors : l.streams.errors ≡ l.initial.streams.errors;
+}
