@@ -73,10 +73,17 @@ answered c s y es ey =
 -- grounds 16 and 17 are passed, and the number is N_D
 passed : (c : In-Count) (s y : List ℕ) → let a = c.args in let F = (frame_of c.args.d (plan_of c.args.plan.now)) in length s ≡ a.places → length y ≡ a.width
     → (Fine ≡ (ground16 F a.state.phase else ground17 F (places17 a.literal F) s y)) × (c.in-Count.nd ≡ data_count F a.state.phase)
+unfolding frame_of plan_of
 passed c s y es ey =
     let g = c in
     let a = g.args in
-    ready_count ((frame_of g.args.d (plan_of g.args.plan.now))) a.state.phase (places17 a.literal ((frame_of g.args.d (plan_of g.args.plan.now)))) s y a.state.phase _ (sym c.in-Count.is ∙ answered c.⟦After-kc-2-1⟧ s y es ey)
+    ready_count ((frame_of g.args.d (plan_of g.args.plan.now))) a.state.phase (places17 a.literal ((frame_of g.args.d (plan_of g.args.plan.now)))) s y a.state.phase _ (sym c.in-Count.is
+    ∙ c.ready.ensures.answer s y es ey
+    ∙ ap (λ (n : ℕ). ready_answer (frame_of g.args.d (plan_of g.args.plan.now)) a.state.phase n s y a.state.phase)
+    (let it : c.places_17-need.result ≡ places17 a.literal (frame_of a.d (plan_of a.plan.now)) =
+    c.places_17-need.ensures
+    ∙ ap (pick a.literal 0) (emitter_places_are (frame_of a.d (plan_of a.plan.now)) _ _ (let it : c.number_at-m.result ≡ (plan_of a.plan.now).depth = c.number_at-m.ensures.0 in it) g.requires.0.all)
+    in it))
 
 -- the subcarriers and flags are made
 made : (c : In-Count) → let last = c.ready.new in Made ((frame_of c.args.d (plan_of c.args.plan.now))) c.args.state.phase last.car last.kc last.flag
@@ -173,13 +180,13 @@ returns-then-places-lines c store ds room es er t =
     let k = c in
     let g = k in
     let a = g.args in
-    (by_lines a.literal a.d a.plan.now ((at g.args.state store) store) ((giving (given_by g.args.flushing ds) g.args.profile.now room) ds room) g.requires.0.fine (listed (goal.at.returns-then-places-lines c).Start ds) (passed (goal.at.returns-then-places-lines c).In-Count store room es er).0 (omega (arith, es, needed_lines (goal.at.returns-then-places-lines c).After-places_27-lines, c.if-places-lines.true)), tt)
+    (by_lines a.literal a.d a.plan.now (at g.args.state store) (giving (given_by g.args.flushing ds) g.args.profile.now room) g.requires.0.fine (listed (goal.at.returns-then-places-lines c).Start ds) (passed (goal.at.returns-then-places-lines c).In-Count store room es er).0 (omega (arith, es, needed_lines (goal.at.returns-then-places-lines c).After-places_27-lines, c.if-places-lines.true)), tt)
 
 pub returns-in-Refused : goal.returns-in-Refused
 returns-in-Refused c store ds room es er t =
     let g = c in
     let a = g.args in (
-      by_lent a.literal a.d a.plan.now ((at g.args.state store) store) ((giving (given_by g.args.flushing ds) g.args.profile.now room) ds room) g.requires.0.fine (listed (goal.at.returns-in-Refused c).Start ds) _ _
+      by_lent a.literal a.d a.plan.now (at g.args.state store) (giving (given_by g.args.flushing ds) g.args.profile.now room) g.requires.0.fine (listed (goal.at.returns-in-Refused c).Start ds) _ _
           (ready_refused ((frame_of g.args.d (plan_of g.args.plan.now))) a.state.phase (places17 a.literal ((frame_of g.args.d (plan_of g.args.plan.now)))) store room a.state.phase _ _ (sym c.in-Refused.is ∙ answered (goal.at.returns-in-Refused c).After-ready store room es er)),
       tt,
     )
@@ -187,7 +194,7 @@ returns-in-Refused c store ds room es er t =
 pub returns-in-Ground : goal.returns-in-Ground
 returns-in-Ground c store ds room es er t =
     let g = c in (
-      by_given g.args.literal g.args.d g.args.plan.now ((at g.args.state store) store) ((giving (given_by g.args.flushing ds) g.args.profile.now room) ds room) g.requires.0.fine (listed (goal.at.returns-in-Ground c).Start ds) (passed (goal.at.returns-in-Ground c).In-Count store room es er).0 (fits_lines (goal.at.returns-in-Ground c).Else-places-lines store es) (Ground _ _)
+      by_given g.args.literal g.args.d g.args.plan.now (at g.args.state store) (giving (given_by g.args.flushing ds) g.args.profile.now room) g.requires.0.fine (listed (goal.at.returns-in-Ground c).Start ds) (passed (goal.at.returns-in-Ground c).In-Count store room es er).0 (fits_lines (goal.at.returns-in-Ground c).Else-places-lines store es) (Ground _ _)
           (sym c.in-Ground.is ∙ (c.fill_in.ensures ds t).0),
       tt,
     )
@@ -199,10 +206,10 @@ returns-in-Fine c store ds room es er t =
     let all = g.requires.0.all in
     let x = c.fill_in in
     let told = c.in-Fine.is in (
-      ap Accepted all ∙ by_given g.args.literal g.args.d g.args.plan.now ((at g.args.state store) store) ((giving (given_by g.args.flushing ds) g.args.profile.now room) ds room) g.requires.0.fine (listed (goal.at.returns-in-Fine c).Start ds) (passed (goal.at.returns-in-Fine c).In-Count store room es er).0 (fits_lines (goal.at.returns-in-Fine c).Else-places-lines store es) Fine (sym told ∙ (x.ensures ds t).0),
+      ap Accepted all ∙ by_given g.args.literal g.args.d g.args.plan.now (at g.args.state store) (giving (given_by g.args.flushing ds) g.args.profile.now room) g.requires.0.fine (listed (goal.at.returns-in-Fine c).Start ds) (passed (goal.at.returns-in-Fine c).In-Count store room es er).0 (fits_lines (goal.at.returns-in-Fine c).Else-places-lines store es) Fine (sym told ∙ (x.ensures ds t).0),
       record {
         ready = g.requires.0;
-        whole (goal.at.returns-in-Fine c).In-Count k.ready.auto.car ∙ g.requires.3;
+        whole = k.ready.auto.car ∙ g.requires.3;
         ranks = λ i h. (made (goal.at.returns-in-Fine c).In-Count).ranks i (omega (arith, h, all));
         input = take_at x.new.x (drop g.args.n g.args.x.now) g.args.n (x.auto.x ∙ part (goal.at.returns-in-Fine c).Start) ∙ (x.ensures ds t).1 told;
       },

@@ -1,0 +1,135 @@
+-- `byteemitter::send` meets its contract: one law for a refusal, one for an accepted step. Assumes nothing.
+use Prim.Native.Nat.{ℕ, ◌*◌, ◌≤◌}
+use mathlib.Core.Path.{◌≡◌, refl, sym, ap, ◌∙◌, subst}
+use mathlib.Core.Bool.{false}
+use mathlib.Core.List.{List, ◌++◌}
+use native.Mathlib.Omega.{arith}
+use lib.ListN.{length, take, drop}
+use lib.Seq.{length-take-le, length_front, take_at}
+use Rattle.rules.specs.declared.Device.{Device}
+use Rattle.rules.specs.declared.Verdict.TheVariants.{Accepted}
+use Rattle.rules.specs.Fits.{Fits, capacity}
+use Rattle.rules.specs.Plan.{plan_of}
+use Rattle.rules.specs.Frame.{frame_of, line_symbol}
+use Rattle.rules.specs.Store.{emitter_places}
+use Rattle.rules.proofs.Sizes.{khz50_fits}
+use Rattle.places.proofs.Sizes.{emitter_places_are}
+use Rattle.steps.proofs.Accepted.{cells_low}
+use Rattle.steps.proofs.Lent.{Lent}
+use Rattle.bytecells.specs.Octets.{cells_of, bytes_of}
+use Rattle.bytecells.specs.ByteSteps.{sent_bytes}
+use Rattle.bytecells.proofs.OctetLaws.{length_cells, whole_length}
+use Rattle.sending.specs.Sent.{given_by, at, giving, step_by}
+use Rattle.sendgrounds.specs.Opening.{SendOpens}
+use Rattle.sendgrounds.proofs.Answers.{refused, fit, sent}
+use Rattle.byteemitter.proofs.ByteAnswers.{as_bytes, unchanged}
+use Rattle.byteemitter.proofs.send.Goals as goal
+use Rattle.byteemitter.proofs.send.Goals.{After-admit, After-delay, After-number_at-m, After-x-2-1, In-Accepted, In-Accepted-1}
+
+said : (c : After-admit) → (let g = c in let last = c.admit.new in SendOpens c.admit.result false c.khz50_device-d.result g.args.plan.now ((at g.args.state (cells_of g.args.store.now))) ((giving (given_by g.args.flushing (cells_of g.args.input.now)) g.args.profile.now (cells_of g.args.symbol.now))) last.marks last.car last.x)
+said c =
+    let a = c.args in
+    let first = c.read_first-number in
+    c.admit.ensures (cells_of a.store.now) (cells_of a.input.now) (cells_of a.symbol.now) (length_cells a.store.now) (length_cells a.symbol.now)
+    (record { number = sym first.ensures.number; read = λ h. first.ensures.read (omega (arith, h, first.auto.cells)) })
+
+taken : (c : In-Accepted) → (let g = c in let last = c.admit.new in SendOpens (Accepted c.in-Accepted.n) false c.khz50_device-d.result g.args.plan.now ((at g.args.state (cells_of g.args.store.now))) ((giving (given_by g.args.flushing (cells_of g.args.input.now)) g.args.profile.now (cells_of g.args.symbol.now))) last.marks last.car last.x)
+taken c = subst (Said c.⟦After-x-2-1⟧) c.in-Accepted.is ((let it : (let g = c in let last = c.admit.new in SendOpens c.admit.result false c.khz50_device-d.result g.args.plan.now ((at g.args.state (cells_of g.args.store.now))) ((giving (given_by g.args.flushing (cells_of g.args.input.now)) g.args.profile.now (cells_of g.args.symbol.now))) last.marks last.car last.x) = let a = c.args in let first = c.read_first-number in c.admit.ensures (cells_of a.store.now) (cells_of a.input.now) (cells_of a.symbol.now) (length_cells a.store.now) (length_cells a.symbol.now) (record { number = sym first.ensures.number; read = λ h. first.ensures.read (omega (arith, h, first.auto.cells)) }) in it))
+
+-- the cells fit the array
+size : (c : After-admit) → length c.admit.new.x ≡ capacity
+size c = c.admit.auto.x
+
+low : (c : In-Accepted) → c.in-Accepted.n ≤ capacity
+low c =
+    let r = (taken c).1.ready in
+    omega (arith, r.all, cells_low c.khz50_device-d.result (plan_of c.args.plan.now) r.fits)
+
+-- so many are the first ones
+part : (c : In-Accepted) → length (take c.in-Accepted.n c.admit.new.x) ≡ c.in-Accepted.n
+part c = length-take-le c.in-Accepted.n c.admit.new.x (omega (arith, low c, (let it : length c.admit.new.x ≡ capacity = c.admit.auto.x in it)))
+
+-- and stay so
+kept : (c : After-delay) → length c.delay.new.cells ≡ c.in-Accepted.n
+kept c = c.delay.auto.cells ∙ (let it : length (take c.in-Accepted.n c.admit.new.x) ≡ c.in-Accepted.n = length-take-le c.in-Accepted.n c.admit.new.x (omega (arith, (let it : c.in-Accepted.n ≤ capacity = let r = (taken c).1.ready in omega (arith, r.all, cells_low c.khz50_device-d.result (plan_of c.args.plan.now) r.fits) in it), (let it : length c.admit.new.x ≡ capacity = c.admit.auto.x in it))) in it)
+
+-- in an array that is whole again
+front : (c : After-delay) → take c.in-Accepted.n (c.delay.new.cells ++ drop c.in-Accepted.n c.admit.new.x) ≡ c.delay.new.cells
+front c = take_at c.delay.new.cells (drop c.in-Accepted.n c.admit.new.x) c.in-Accepted.n (kept c)
+
+-- grounds 16 and 17 are passed, and m is the depth
+lent : (c : After-number_at-m) → let g = c in Lent ((frame_of c.khz50_device-d.result (plan_of c.args.plan.now))) g.args.state.phase (emitter_places ((frame_of c.khz50_device-d.result (plan_of c.args.plan.now)))) (cells_of g.args.store.now) (cells_of g.args.symbol.now)
+lent c = let g = c in (fit false c.khz50_device-d.result g.args.plan.now ((at g.args.state (cells_of g.args.store.now))) ((giving (given_by g.args.flushing (cells_of g.args.input.now)) g.args.profile.now (cells_of g.args.symbol.now))) c.in-Accepted.n ((let it : (let g = c in let last = c.admit.new in SendOpens (Accepted c.in-Accepted.n) false c.khz50_device-d.result g.args.plan.now ((at g.args.state (cells_of g.args.store.now))) ((giving (given_by g.args.flushing (cells_of g.args.input.now)) g.args.profile.now (cells_of g.args.symbol.now))) last.marks last.car last.x) = subst (Said c.⟦In-Accepted-1⟧) c.in-Accepted.is ((let it : (let g = c in let last = c.admit.new in SendOpens c.admit.result false c.khz50_device-d.result g.args.plan.now (emitter g) (asked g) last.marks last.car last.x) = let a = c.args in let first = c.read_first-number in c.admit.ensures (cells_of a.store.now) (cells_of a.input.now) (cells_of a.symbol.now) (length_cells a.store.now) (length_cells a.symbol.now) (record { number = sym first.ensures.number; read = λ h. first.ensures.read (omega (arith, h, first.auto.cells)) }) in it)) in it)).0).0
+
+deep : (c : After-number_at-m) → c.number_at-m.result ≡ (plan_of c.args.plan.now).depth
+unfolding plan_of
+deep c = c.number_at-m.ensures.0
+
+pub admit-requires : goal.admit-requires
+admit-requires c =
+    let is = c.khz50_device-d.ensures in
+    let wide = ap (λ (d : Device). d.subcarriers) is in
+    (subst Fits (sym is) khz50_fits, omega (arith, ap (λ (d : Device). d.depth_max) is), λ h. omega (arith, h, wide, c.read_first-number.auto.cells), refl, refl, omega (arith, wide))
+
+pub number_at-m-requires : goal.number_at-m-requires
+number_at-m-requires c = omega (arith, (taken c).1.ready.studied.long)
+
+pub slice_bounds-x-end : goal.slice_bounds-x-end
+slice_bounds-x-end c = omega (arith, low (goal.at.slice_bounds-x-end c).In-Accepted, size (goal.at.slice_bounds-x-end c).After-admit)
+
+pub slice_bounds-delay-end : goal.slice_bounds-delay-end
+slice_bounds-delay-end c = sym (part (goal.at.slice_bounds-delay-end c).In-Accepted)
+
+pub delay-requires : goal.delay-requires
+unfolding frame_of
+delay-requires c =
+    let g = c in
+    let m = deep (goal.at.delay-requires c).After-number_at-m in
+    let r = (taken (goal.at.delay-requires c).In-Accepted).1.ready in
+    let x = part (goal.at.delay-requires c).In-Accepted in
+    let need = emitter_places_are ((frame_of c.khz50_device-d.result (plan_of c.args.plan.now))) _ _ m (x ∙ r.all) in
+    (g.requires.0, omega (arith, m, r.deep), omega (arith, m, r.shallow), omega (arith, x, low (goal.at.delay-requires c).In-Accepted), omega (arith, need, (lent (goal.at.delay-requires c).After-number_at-m).places_fit, whole_length g.args.store.now g.requires.0))
+
+pub slice_bounds-place-end : goal.slice_bounds-place-end
+slice_bounds-place-end c = sym (taken (goal.at.slice_bounds-place-end c).In-Accepted).1.whole
+
+pub slice_bounds-x-end-in-Accepted : goal.slice_bounds-x-end-in-Accepted
+slice_bounds-x-end-in-Accepted c =
+    omega (arith, low (goal.at.slice_bounds-x-end-in-Accepted c).In-Accepted, size (goal.at.slice_bounds-x-end-in-Accepted c).After-admit, length_front c.admit.new.x c.delay.new.cells c.in-Accepted.n c.delay.auto.cells)
+
+pub slice_bounds-place-end-in-Accepted : goal.slice_bounds-place-end-in-Accepted
+slice_bounds-place-end-in-Accepted c = sym (length-take-le _ _ ((omega (arith, low (goal.at.slice_bounds-place-end-in-Accepted c).In-Accepted, size (goal.at.slice_bounds-place-end-in-Accepted c).After-admit, length_front c.admit.new.x c.delay.new.cells c.in-Accepted.n c.delay.auto.cells))))
+
+pub place-requires : goal.place-requires
+unfolding frame_of
+place-requires c =
+    let g = c in
+    let made = (taken (goal.at.place-requires c).In-Accepted).1 in
+    let r = made.ready in
+    let size = sym ((sym (length-take-le _ _ ((omega (arith, low (goal.at.place-requires c).In-Accepted, size (goal.at.place-requires c).After-admit, length_front c.admit.new.x c.delay.new.cells c.in-Accepted.n c.delay.auto.cells)))))) in
+    (r.fits, r.studied, ap (λ (d : Device). d.subcarriers) c.khz50_device-d.ensures, made.whole, size ∙ r.all, whole_length g.args.symbol.now g.requires.2 ∙ ap (λ (n : ℕ). 2 * n) (lent (goal.at.place-requires c).After-number_at-m).whole, λ i h. made.ranks i (omega (arith, h, size)))
+
+pub next_state-requires : goal.next_state-requires
+unfolding frame_of
+next_state-requires c = (lent (goal.at.next_state-requires c).After-number_at-m).phase_in
+
+pub returns-in-Refused : goal.returns-in-Refused
+returns-in-Refused c =
+    let g = c in
+    let a = g.args in
+    let d = c.khz50_device-d in
+    unchanged _ a.store.now a.symbol.now _ g.requires.0 g.requires.2
+    (refused false d.result a.plan.now ((at g.args.state (cells_of g.args.store.now))) ((giving (given_by g.args.flushing (cells_of g.args.input.now)) g.args.profile.now (cells_of g.args.symbol.now))) _ _ (sym c.in-Refused.is ∙ (said (goal.at.returns-in-Refused c).After-admit).0))
+    ∙ ap (λ (d : Device). sent_bytes (step_by d a.plan.now a.profile.now a.flushing a.state (cells_of a.store.now) (cells_of a.input.now) (cells_of a.symbol.now))) d.ensures
+
+pub returns-in-Accepted : goal.returns-in-Accepted
+returns-in-Accepted c =
+    let g = c in
+    let a = g.args in
+    let d = c.khz50_device-d in
+    let put = c.delay.ensures in
+    let step = taken (goal.at.returns-in-Accepted c).In-Accepted in
+    as_bytes _ _ _ _ _ _ put.stored
+    (c.place.ensures ∙ ap (λ (x : List ℕ). bytes_of (line_symbol (frame_of d.result (plan_of a.plan.now)) x)) (front (goal.at.returns-in-Accepted c).After-delay ∙ put.sent))
+    (sent d.result a.plan.now ((at g.args.state (cells_of g.args.store.now))) ((giving (given_by g.args.flushing (cells_of g.args.input.now)) g.args.profile.now (cells_of g.args.symbol.now))) _ step.0 _ _ _ _ _ _ (deep (goal.at.returns-in-Accepted c).After-number_at-m) (part (goal.at.returns-in-Accepted c).In-Accepted) step.1.input refl refl c.next_state.ensures)
+    ∙ ap (λ (d : Device). sent_bytes (step_by d a.plan.now a.profile.now a.flushing a.state (cells_of a.store.now) (cells_of a.input.now) (cells_of a.symbol.now))) d.ensures
