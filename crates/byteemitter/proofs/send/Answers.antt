@@ -7,6 +7,7 @@ use native.Mathlib.Omega.{arith}
 use lib.ListN.{length, take, drop}
 use lib.Seq.{length-take-le, length_front, take_at}
 use Rattle.rules.specs.declared.Device.{Device}
+use Rattle.rules.specs.declared.Verdict.{Verdict}
 use Rattle.rules.specs.declared.Verdict.TheVariants.{Accepted}
 use Rattle.rules.specs.Fits.{Fits, capacity}
 use Rattle.rules.specs.Plan.{plan_of}
@@ -24,7 +25,7 @@ use Rattle.sendgrounds.specs.Opening.{SendOpens}
 use Rattle.sendgrounds.proofs.Answers.{refused, fit, sent}
 use Rattle.byteemitter.proofs.ByteAnswers.{as_bytes, unchanged}
 use Rattle.byteemitter.proofs.send.Goals as goal
-use Rattle.byteemitter.proofs.send.Goals.{After-admit, After-delay, After-number_at-m, After-x-2-1, In-Accepted, In-Accepted-1}
+use Rattle.byteemitter.proofs.send.Goals.{After-admit, After-delay, After-number_at-m, In-Accepted}
 
 said : (c : After-admit) → (let g = c in let last = c.admit.new in SendOpens c.admit.result false c.khz50_device-d.result g.args.plan.now ((at g.args.state (cells_of g.args.store.now))) ((giving (given_by g.args.flushing (cells_of g.args.input.now)) g.args.profile.now (cells_of g.args.symbol.now))) last.marks last.car last.x)
 said c =
@@ -34,7 +35,7 @@ said c =
     (record { number = sym first.ensures.number; read = λ h. first.ensures.read (omega (arith, h, first.auto.cells)) })
 
 taken : (c : In-Accepted) → (let g = c in let last = c.admit.new in SendOpens (Accepted c.in-Accepted.n) false c.khz50_device-d.result g.args.plan.now ((at g.args.state (cells_of g.args.store.now))) ((giving (given_by g.args.flushing (cells_of g.args.input.now)) g.args.profile.now (cells_of g.args.symbol.now))) last.marks last.car last.x)
-taken c = subst (Said c.⟦After-x-2-1⟧) c.in-Accepted.is ((let it : (let g = c in let last = c.admit.new in SendOpens c.admit.result false c.khz50_device-d.result g.args.plan.now ((at g.args.state (cells_of g.args.store.now))) ((giving (given_by g.args.flushing (cells_of g.args.input.now)) g.args.profile.now (cells_of g.args.symbol.now))) last.marks last.car last.x) = let a = c.args in let first = c.read_first-number in c.admit.ensures (cells_of a.store.now) (cells_of a.input.now) (cells_of a.symbol.now) (length_cells a.store.now) (length_cells a.symbol.now) (record { number = sym first.ensures.number; read = λ h. first.ensures.read (omega (arith, h, first.auto.cells)) }) in it))
+taken c = subst ((λ (r : Verdict). let g = c in let last = c.admit.new in SendOpens r false c.khz50_device-d.result g.args.plan.now ((at g.args.state (cells_of g.args.store.now))) ((giving (given_by g.args.flushing (cells_of g.args.input.now)) g.args.profile.now (cells_of g.args.symbol.now))) last.marks last.car last.x)) c.in-Accepted.is ((let it : (let g = c in let last = c.admit.new in SendOpens c.admit.result false c.khz50_device-d.result g.args.plan.now ((at g.args.state (cells_of g.args.store.now))) ((giving (given_by g.args.flushing (cells_of g.args.input.now)) g.args.profile.now (cells_of g.args.symbol.now))) last.marks last.car last.x) = let a = c.args in let first = c.read_first-number in c.admit.ensures (cells_of a.store.now) (cells_of a.input.now) (cells_of a.symbol.now) (length_cells a.store.now) (length_cells a.symbol.now) (record { number = sym first.ensures.number; read = λ h. first.ensures.read (omega (arith, h, first.auto.cells)) }) in it))
 
 -- the cells fit the array
 size : (c : After-admit) → length c.admit.new.x ≡ capacity
@@ -51,7 +52,7 @@ part c = length-take-le c.in-Accepted.n c.admit.new.x (omega (arith, low c, (let
 
 -- and stay so
 kept : (c : After-delay) → length c.delay.new.cells ≡ c.in-Accepted.n
-kept c = c.delay.auto.cells ∙ (let it : length (take c.in-Accepted.n c.admit.new.x) ≡ c.in-Accepted.n = length-take-le c.in-Accepted.n c.admit.new.x (omega (arith, (let it : c.in-Accepted.n ≤ capacity = let r = (taken c).1.ready in omega (arith, r.all, cells_low c.khz50_device-d.result (plan_of c.args.plan.now) r.fits) in it), (let it : length c.admit.new.x ≡ capacity = c.admit.auto.x in it))) in it)
+kept c = c.delay.auto.cells ∙ (let it : length (take c.in-Accepted.n c.admit.new.x) ≡ c.in-Accepted.n = length-take-le c.in-Accepted.n c.admit.new.x (omega (arith, (let it : c.in-Accepted.n ≤ capacity = let r = ((let it : (let g = c in let last = c.admit.new in SendOpens (Accepted c.in-Accepted.n) false c.khz50_device-d.result g.args.plan.now ((at g.args.state (cells_of g.args.store.now))) ((giving (given_by g.args.flushing (cells_of g.args.input.now)) g.args.profile.now (cells_of g.args.symbol.now))) last.marks last.car last.x) = subst ((λ (r : Verdict). let g = c in let last = c.admit.new in SendOpens r false c.khz50_device-d.result g.args.plan.now ((at g.args.state (cells_of g.args.store.now))) ((giving (given_by g.args.flushing (cells_of g.args.input.now)) g.args.profile.now (cells_of g.args.symbol.now))) last.marks last.car last.x)) c.in-Accepted.is ((let it : (let g = c in let last = c.admit.new in SendOpens c.admit.result false c.khz50_device-d.result g.args.plan.now ((at g.args.state (cells_of g.args.store.now))) ((giving (given_by g.args.flushing (cells_of g.args.input.now)) g.args.profile.now (cells_of g.args.symbol.now))) last.marks last.car last.x) = let a = c.args in let first = c.read_first-number in c.admit.ensures (cells_of a.store.now) (cells_of a.input.now) (cells_of a.symbol.now) (length_cells a.store.now) (length_cells a.symbol.now) (record { number = sym first.ensures.number; read = λ h. first.ensures.read (omega (arith, h, first.auto.cells)) }) in it)) in it)).1.ready in omega (arith, r.all, cells_low c.khz50_device-d.result (plan_of c.args.plan.now) r.fits) in it), (let it : length c.admit.new.x ≡ capacity = c.admit.auto.x in it))) in it)
 
 -- in an array that is whole again
 front : (c : After-delay) → take c.in-Accepted.n (c.delay.new.cells ++ drop c.in-Accepted.n c.admit.new.x) ≡ c.delay.new.cells
@@ -59,7 +60,7 @@ front c = take_at c.delay.new.cells (drop c.in-Accepted.n c.admit.new.x) c.in-Ac
 
 -- grounds 16 and 17 are passed, and m is the depth
 lent : (c : After-number_at-m) → let g = c in Lent ((frame_of c.khz50_device-d.result (plan_of c.args.plan.now))) g.args.state.phase (emitter_places ((frame_of c.khz50_device-d.result (plan_of c.args.plan.now)))) (cells_of g.args.store.now) (cells_of g.args.symbol.now)
-lent c = let g = c in (fit false c.khz50_device-d.result g.args.plan.now ((at g.args.state (cells_of g.args.store.now))) ((giving (given_by g.args.flushing (cells_of g.args.input.now)) g.args.profile.now (cells_of g.args.symbol.now))) c.in-Accepted.n ((let it : (let g = c in let last = c.admit.new in SendOpens (Accepted c.in-Accepted.n) false c.khz50_device-d.result g.args.plan.now ((at g.args.state (cells_of g.args.store.now))) ((giving (given_by g.args.flushing (cells_of g.args.input.now)) g.args.profile.now (cells_of g.args.symbol.now))) last.marks last.car last.x) = subst (Said c.⟦In-Accepted-1⟧) c.in-Accepted.is ((let it : (let g = c in let last = c.admit.new in SendOpens c.admit.result false c.khz50_device-d.result g.args.plan.now (emitter g) (asked g) last.marks last.car last.x) = let a = c.args in let first = c.read_first-number in c.admit.ensures (cells_of a.store.now) (cells_of a.input.now) (cells_of a.symbol.now) (length_cells a.store.now) (length_cells a.symbol.now) (record { number = sym first.ensures.number; read = λ h. first.ensures.read (omega (arith, h, first.auto.cells)) }) in it)) in it)).0).0
+lent c = let g = c in (fit false c.khz50_device-d.result g.args.plan.now ((at g.args.state (cells_of g.args.store.now))) ((giving (given_by g.args.flushing (cells_of g.args.input.now)) g.args.profile.now (cells_of g.args.symbol.now))) c.in-Accepted.n ((let it : (let g = c in let last = c.admit.new in SendOpens (Accepted c.in-Accepted.n) false c.khz50_device-d.result g.args.plan.now ((at g.args.state (cells_of g.args.store.now))) ((giving (given_by g.args.flushing (cells_of g.args.input.now)) g.args.profile.now (cells_of g.args.symbol.now))) last.marks last.car last.x) = subst ((λ (r : Verdict). let g = c in let last = c.admit.new in SendOpens r false c.khz50_device-d.result g.args.plan.now ((at g.args.state (cells_of g.args.store.now))) ((giving (given_by g.args.flushing (cells_of g.args.input.now)) g.args.profile.now (cells_of g.args.symbol.now))) last.marks last.car last.x)) c.in-Accepted.is ((let it : (let g = c in let last = c.admit.new in SendOpens c.admit.result false c.khz50_device-d.result g.args.plan.now ((at g.args.state (cells_of g.args.store.now))) ((giving (given_by g.args.flushing (cells_of g.args.input.now)) g.args.profile.now (cells_of g.args.symbol.now))) last.marks last.car last.x) = let a = c.args in let first = c.read_first-number in c.admit.ensures (cells_of a.store.now) (cells_of a.input.now) (cells_of a.symbol.now) (length_cells a.store.now) (length_cells a.symbol.now) (record { number = sym first.ensures.number; read = λ h. first.ensures.read (omega (arith, h, first.auto.cells)) }) in it)) in it)).0).0
 
 deep : (c : After-number_at-m) → c.number_at-m.result ≡ (plan_of c.args.plan.now).depth
 unfolding plan_of

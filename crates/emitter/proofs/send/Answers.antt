@@ -7,6 +7,7 @@ use native.Mathlib.Omega.{arith}
 use lib.ListN.{length, take, drop}
 use lib.Seq.{length-take-le, length_front, take_at, take-length}
 use Rattle.rules.specs.declared.Device.{Device}
+use Rattle.rules.specs.declared.Verdict.{Verdict}
 use Rattle.rules.specs.declared.Verdict.TheVariants.{Accepted}
 use Rattle.rules.specs.Fits.{Fits, capacity}
 use Rattle.rules.specs.Plan.{plan_of}
@@ -20,7 +21,7 @@ use Rattle.sending.specs.Sent.{given_by, at, giving, step_by}
 use Rattle.sendgrounds.specs.Opening.{SendOpens}
 use Rattle.sendgrounds.proofs.Answers.{refused, fit, sent}
 use Rattle.emitter.proofs.send.Goals as goal
-use Rattle.emitter.proofs.send.Goals.{After-admit, After-delay, After-number_at-m, After-x-2-1, In-Accepted, In-Accepted-1}
+use Rattle.emitter.proofs.send.Goals.{After-admit, After-delay, After-number_at-m, In-Accepted}
 
 said : (c : After-admit) → (let g = c in let last = c.admit.new in SendOpens c.admit.result false c.khz50_device-d.result g.args.plan.now ((at g.args.state g.args.store.now)) ((giving (given_by g.args.flushing g.args.input.now) g.args.profile.now g.args.symbol.now)) last.marks last.car last.x)
 said c =
@@ -28,8 +29,7 @@ said c =
     c.admit.ensures a.store.now a.input.now a.symbol.now refl refl (record { number = refl; read = λ _. take-length a.input.now })
 
 taken : (c : In-Accepted) → (let g = c in let last = c.admit.new in SendOpens (Accepted c.in-Accepted.n) false c.khz50_device-d.result g.args.plan.now ((at g.args.state g.args.store.now)) ((giving (given_by g.args.flushing g.args.input.now) g.args.profile.now g.args.symbol.now)) last.marks last.car last.x)
-unfolding Said
-taken c = subst (Said c.⟦After-x-2-1⟧) c.in-Accepted.is ((let it : (let g = c in let last = c.admit.new in SendOpens c.admit.result false c.khz50_device-d.result g.args.plan.now ((at g.args.state g.args.store.now)) ((giving (given_by g.args.flushing g.args.input.now) g.args.profile.now g.args.symbol.now)) last.marks last.car last.x) = let a = c.args in c.admit.ensures a.store.now a.input.now a.symbol.now refl refl (record { number = refl; read = λ _. take-length a.input.now }) in it))
+taken c = subst ((λ (r : Verdict). let g = c in let last = c.admit.new in SendOpens r false c.khz50_device-d.result g.args.plan.now ((at g.args.state g.args.store.now)) ((giving (given_by g.args.flushing g.args.input.now) g.args.profile.now g.args.symbol.now)) last.marks last.car last.x)) c.in-Accepted.is ((let it : (let g = c in let last = c.admit.new in SendOpens c.admit.result false c.khz50_device-d.result g.args.plan.now ((at g.args.state g.args.store.now)) ((giving (given_by g.args.flushing g.args.input.now) g.args.profile.now g.args.symbol.now)) last.marks last.car last.x) = let a = c.args in c.admit.ensures a.store.now a.input.now a.symbol.now refl refl (record { number = refl; read = λ _. take-length a.input.now }) in it))
 
 -- the cells fit the array
 size : (c : After-admit) → length c.admit.new.x ≡ capacity
@@ -46,8 +46,7 @@ part c = length-take-le c.in-Accepted.n c.admit.new.x (omega (arith, low c, (let
 
 -- and stay so
 kept : (c : After-delay) → length c.delay.new.cells ≡ c.in-Accepted.n
-unfolding Said
-kept c = c.delay.auto.cells ∙ (let it : length (take c.in-Accepted.n c.admit.new.x) ≡ c.in-Accepted.n = length-take-le c.in-Accepted.n c.admit.new.x (omega (arith, (let it : c.in-Accepted.n ≤ capacity = let r = (taken c).1.ready in omega (arith, r.all, cells_low c.khz50_device-d.result (plan_of c.args.plan.now) r.fits) in it), (let it : length c.admit.new.x ≡ capacity = c.admit.auto.x in it))) in it)
+kept c = c.delay.auto.cells ∙ (let it : length (take c.in-Accepted.n c.admit.new.x) ≡ c.in-Accepted.n = length-take-le c.in-Accepted.n c.admit.new.x (omega (arith, (let it : c.in-Accepted.n ≤ capacity = let r = ((let it : (let g = c in let last = c.admit.new in SendOpens (Accepted c.in-Accepted.n) false c.khz50_device-d.result g.args.plan.now ((at g.args.state g.args.store.now)) ((giving (given_by g.args.flushing g.args.input.now) g.args.profile.now g.args.symbol.now)) last.marks last.car last.x) = subst ((λ (r : Verdict). let g = c in let last = c.admit.new in SendOpens r false c.khz50_device-d.result g.args.plan.now ((at g.args.state g.args.store.now)) ((giving (given_by g.args.flushing g.args.input.now) g.args.profile.now g.args.symbol.now)) last.marks last.car last.x)) c.in-Accepted.is ((let it : (let g = c in let last = c.admit.new in SendOpens c.admit.result false c.khz50_device-d.result g.args.plan.now ((at g.args.state g.args.store.now)) ((giving (given_by g.args.flushing g.args.input.now) g.args.profile.now g.args.symbol.now)) last.marks last.car last.x) = let a = c.args in c.admit.ensures a.store.now a.input.now a.symbol.now refl refl (record { number = refl; read = λ _. take-length a.input.now }) in it)) in it)).1.ready in omega (arith, r.all, cells_low c.khz50_device-d.result (plan_of c.args.plan.now) r.fits) in it), (let it : length c.admit.new.x ≡ capacity = c.admit.auto.x in it))) in it)
 
 -- in an array that is whole again
 front : (c : After-delay) → take c.in-Accepted.n (c.delay.new.cells ++ drop c.in-Accepted.n c.admit.new.x) ≡ c.delay.new.cells
@@ -55,8 +54,7 @@ front c = take_at c.delay.new.cells (drop c.in-Accepted.n c.admit.new.x) c.in-Ac
 
 -- grounds 16 and 17 are passed, and m is the depth
 lent : (c : After-number_at-m) → let g = c in Lent ((frame_of c.khz50_device-d.result (plan_of c.args.plan.now))) g.args.state.phase (emitter_places ((frame_of c.khz50_device-d.result (plan_of c.args.plan.now)))) g.args.store.now g.args.symbol.now
-unfolding Said
-lent c = let g = c in (fit false c.khz50_device-d.result g.args.plan.now ((at g.args.state g.args.store.now)) ((giving (given_by g.args.flushing g.args.input.now) g.args.profile.now g.args.symbol.now)) c.in-Accepted.n ((let it : (let g = c in let last = c.admit.new in SendOpens (Accepted c.in-Accepted.n) false c.khz50_device-d.result g.args.plan.now ((at g.args.state g.args.store.now)) ((giving (given_by g.args.flushing g.args.input.now) g.args.profile.now g.args.symbol.now)) last.marks last.car last.x) = subst (Said c.⟦In-Accepted-1⟧) c.in-Accepted.is ((let it : (let g = c in let last = c.admit.new in SendOpens c.admit.result false c.khz50_device-d.result g.args.plan.now (emitter g) (asked g) last.marks last.car last.x) = let a = c.args in c.admit.ensures a.store.now a.input.now a.symbol.now refl refl (record { number = refl; read = λ _. take-length a.input.now }) in it)) in it)).0).0
+lent c = let g = c in (fit false c.khz50_device-d.result g.args.plan.now ((at g.args.state g.args.store.now)) ((giving (given_by g.args.flushing g.args.input.now) g.args.profile.now g.args.symbol.now)) c.in-Accepted.n ((let it : (let g = c in let last = c.admit.new in SendOpens (Accepted c.in-Accepted.n) false c.khz50_device-d.result g.args.plan.now ((at g.args.state g.args.store.now)) ((giving (given_by g.args.flushing g.args.input.now) g.args.profile.now g.args.symbol.now)) last.marks last.car last.x) = subst ((λ (r : Verdict). let g = c in let last = c.admit.new in SendOpens r false c.khz50_device-d.result g.args.plan.now ((at g.args.state g.args.store.now)) ((giving (given_by g.args.flushing g.args.input.now) g.args.profile.now g.args.symbol.now)) last.marks last.car last.x)) c.in-Accepted.is ((let it : (let g = c in let last = c.admit.new in SendOpens c.admit.result false c.khz50_device-d.result g.args.plan.now ((at g.args.state g.args.store.now)) ((giving (given_by g.args.flushing g.args.input.now) g.args.profile.now g.args.symbol.now)) last.marks last.car last.x) = let a = c.args in c.admit.ensures a.store.now a.input.now a.symbol.now refl refl (record { number = refl; read = λ _. take-length a.input.now }) in it)) in it)).0).0
 
 deep : (c : After-number_at-m) → c.number_at-m.result ≡ (plan_of c.args.plan.now).depth
 unfolding plan_of
