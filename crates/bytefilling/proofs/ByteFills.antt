@@ -6,7 +6,7 @@ use mathlib.Core.List.{List}
 use Rattle.rules.specs.declared.Device.{Device}
 use Rattle.rules.specs.declared.CountAnswer.{CountAnswer}
 use Rattle.rules.specs.declared.CountAnswer.TheVariants.{Refused}
-use Rattle.rules.specs.Filling.{Filling, fills, fill_step, unfill_step}
+use Rattle.rules.specs.Filling.{fills, fill_step, unfill_step}
 use Rattle.bytecells.specs.Octets.{cells_of, bytes_of, odd, Whole}
 use Rattle.bytecells.specs.ByteSteps.{filled_bytes, fill_bytes, unfill_bytes}
 
