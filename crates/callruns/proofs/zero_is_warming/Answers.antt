@@ -2,11 +2,7 @@
 use Rattle.rules.specs.Device.{khz50}
 use Rattle.facts.proofs.Sizes.{khz50_roomy}
 use Rattle.callruns.proofs.Warming.{zero_is_warming}
-use Rattle.callruns.proofs.zero_is_warming.Statement.{statement}
-use Rattle.callruns.proofs.zero_is_warming.Tie as tie
+use Rattle.callruns.proofs.zero_is_warming.Goals as goal
 
-returns : tie.Need-returns
+pub returns : goal.returns
 returns c = λ s. zero_is_warming khz50 s khz50_roomy
-
-pub zero_is_warming_spec : {M : Type 1} → statement M
-zero_is_warming_spec = tie.close (tie.spec returns)
