@@ -1,5 +1,4 @@
 -- `modulatecases::draw` ends: the subcarriers that are left fall at each turn. Assumes nothing.
-use Prim.Native.Nat.{◌-◌}
 use Rattle.modulatecases.proofs.draw.Goals as goal
 
 pub loop-k-init : goal.loop-k-init
