@@ -14,7 +14,7 @@ ghost use Rattle.figure.specs.Steps.{J};
 ghost use Rattle.trials.specs.Parts.{needed};
 
 mod pair;
-mod steps;
+mod pair_steps;
 
 use console::{Input, Standard};
 use pair::{Pair, SENT, STORE, more};
@@ -66,8 +66,8 @@ fn one_symbol(
 ) -> Pair {
     let sum = std::num::wrapping_add_u32(pair.start, pair.t);
     let nd = trials::data_count(plan, sum % 128);
-    let tried = steps::step(streams, pair, sum % 6, nd, plan, first, second);
-    counted(steps::step(streams, tried, steps::RIGHT, nd, plan, first, second))
+    let tried = pair_steps::step(streams, pair, sum % 6, nd, plan, first, second);
+    counted(pair_steps::step(streams, tried, pair_steps::RIGHT, nd, plan, first, second))
 }
 
 // The pair after the runs from all starting phases, or after the symbol with the first difference.

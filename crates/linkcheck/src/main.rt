@@ -6,7 +6,7 @@
 // standard error is told. A longer input than any plan is read on, up to 64 MiB, so that its writer can finish.
 #![tactic(auto)]
 
-mod limits;
+mod cell_limits;
 mod link;
 mod receives;
 mod sends;
@@ -83,7 +83,7 @@ fn one_symbol(
     let mut symbol = [0u16; SYMBOL];
     let mut limits = [0u16; SYMBOL];
     let phase = link::phase_of(link, link.t);
-    limits::put(plan, profile, phase, nd, &mut limits);
+    cell_limits::put(plan, profile, phase, nd, &mut limits);
     let mut next = sends::send(
         streams,
         link,
@@ -107,7 +107,7 @@ fn one_symbol(
         &mut symbol,
     );
     let back = link::phase_of(link, due.input);
-    limits::put(plan, profile, back, due.count, &mut limits);
+    cell_limits::put(plan, profile, back, due.count, &mut limits);
     next = receives::receive(
         streams,
         next,
@@ -219,7 +219,7 @@ fn print_refused(streams: &mut Standard, number: u32, place: u32) {
 fn check_profile(streams: &mut Standard, plan: &[u8], profile: &[u8]) {
     let mut limits = [0u16; SYMBOL];
     let nd = trials::data_count(plan, 0);
-    match limits::put(plan, profile, 0, nd, &mut limits) {
+    match cell_limits::put(plan, profile, 0, nd, &mut limits) {
         CountAnswer::Refused(number, place) => print_refused(streams, number, place),
         CountAnswer::Count(_) => check_link(streams, plan, profile),
     }

@@ -1,5 +1,5 @@
 // The receives of linkcheck: before each right one a wrong one, which has to be refused.
-use crate::limits;
+use crate::cell_limits;
 use crate::link::{
     Link, PHASES, RIGHT, STORE, SYMBOL, answered, count_of, differs, less, more, refusal,
 };
@@ -78,7 +78,7 @@ fn tried(link: Link, kind: u32, code: u32, place: usize) -> bool {
 // By what a cell of the symbol is spoiled: data by the number above the limit of its load.
 fn cell_of(kind: u32, load: u8) -> u16 {
     if kind == 7 {
-        return limits::above(load);
+        return cell_limits::above(load);
     }
     0
 }
@@ -187,7 +187,7 @@ pub(crate) fn receive(
     }
     let given = receiving(link, kind, due.count);
     let mut cells = [43981u16; SYMBOL];
-    let load = limits::load_at(profile, place);
+    let load = cell_limits::load_at(profile, place);
     let old = samples::swap(symbol, place, cell_of(kind, load));
     let answer = trials::receive(plan, profile, given, store, symbol, &mut cells);
     samples::swap(symbol, place, old);
