@@ -45,9 +45,9 @@ def main():
             wrong += 1
             print(f'small.py: {what}: the table says {said}, the second model {is_}')
 
-    for a, b, more, answer, rest in re.findall(r'verdict small \(between (\d+) (\d+) (.*?)\) ≡ (Accepted|Refused) ([\d ]+)\)', table):
+    for a, b, more, answer, rest in re.findall(r'verdict small \(between (\d+) (\d+) (.*?)\) ≡ (Ok|refused_by) ([\d ]+)\)', table):
         records = [tuple(map(int, r)) for r in re.findall(r'\((\d+), (\d+), (\d+)\)', more)]
-        said = ('ok', *numbers(rest)) if answer == 'Accepted' else ('refused', *numbers(rest))
+        said = ('ok', *numbers(rest)) if answer == 'Ok' else ('refused', *numbers(rest))
         row(f'between {a} {b} {more}', said, tuple(model.verdict(between(int(a), int(b), records))))
     p = model.judge(between(7, 80, []))
     ranks = model.ranks_of(p)

@@ -161,7 +161,7 @@ def wrong_table(text):
         looked += 1
         if Walk(int(b), int(n)).cells()[:int(k)] != [int(x) for x in re.findall(r'\d+', list_)]:
             wrong.append('walk_list %s %s %s' % (b, n, k))
-    for b, n, p, found, after in re.findall(r'\(next_cell (\d+) (\d+) straight (\d+) ≡ (none|some (\d+))\)', body):
+    for b, n, p, found, after in re.findall(r'\(next_cell (\d+) (\d+) straight (\d+) ≡ (None|Some (\d+))\)', body):
         looked += 1
         if Walk(int(b), int(n)).step(int(p)) != (int(after) if after else None):
             wrong.append('next_cell %s %s %s' % (b, n, p))
@@ -215,8 +215,8 @@ def bent_page(page):
 def bent_table(text):
     """Each number that the table says of a walk one larger, and each end of a walk no end."""
     head, body = text.split('WalkTable =')
-    on = (body[:end.start()] + 'some 0' + body[end.end():] for end in re.finditer('none', body))
-    for bent in [*larger(body, r'(?<=≡ )\d+|(?<=∷ )\d+|(?<=some )\d+'), *on]:
+    on = (body[:end.start()] + 'Some 0' + body[end.end():] for end in re.finditer('None', body))
+    for bent in [*larger(body, r'(?<=≡ )\d+|(?<=∷ )\d+|(?<=Some )\d+'), *on]:
         yield head + 'WalkTable =' + bent
 
 

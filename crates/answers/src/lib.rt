@@ -3,14 +3,11 @@
 #![tactic(auto)]
 
 ghost use Rattle.std.specs.Prelude.{◌≡◌};
-ghost use Rattle.answers.specs.Answer.{role_number, valued, refusal, reasoned, told_verdict, told_role, told_why, told_count, told_start, told_listen, told_send, told_receive, told_modulate};
+ghost use Rattle.answers.specs.Answer.{role_number, valued, refused, reasoned, told_role, told_why, told_count, told_start, told_listen, told_send, told_receive, told_modulate};
 
 use answerbytes::Told;
-use modulator::ModulateAnswer;
-use rules::{
-    CountAnswer, ListenAnswer, ReceiveAnswer, ReceiverState, Role, RoleAnswer, SendAnswer,
-    StartAnswer, Verdict, WhyAnswer,
-};
+use modulator::RefusedPoint;
+use rules::{EmitterState, Heard, Reason, ReceiverState, Refusal, RefusedStep, Role};
 
 // A value, and no state.
 fn valued(value: u32) -> Told
@@ -26,24 +23,15 @@ fn valued(value: u32) -> Told
 }
 
 // Refused, and no state.
-fn refusal(number: u32, place: u32) -> Told
-    ensures { result ≡ refusal number place }
+fn refused(refusal: Refusal) -> Told
+    ensures { result ≡ refused refusal }
 {
     Told {
-        number,
-        place,
+        number: refusal.number,
+        place: refusal.place,
         phase: 0,
         heard: 0,
         value: 0,
-    }
-}
-
-pub fn told_verdict(v: Verdict) -> Told
-    ensures { result ≡ told_verdict v }
-{
-    match v {
-        Verdict::Accepted(n) => valued(n),
-        Verdict::Refused(g, place) => refusal(g, place),
     }
 }
 
@@ -59,12 +47,12 @@ fn role_number(r: Role) -> u32
     }
 }
 
-pub fn told_role(a: RoleAnswer) -> Told
+pub fn told_role(a: Result<Role, Refusal>) -> Told
     ensures { result ≡ told_role a }
 {
     match a {
-        RoleAnswer::Is(r) => valued(role_number(r)),
-        RoleAnswer::Refused(g, place) => refusal(g, place),
+        Ok(r) => valued(role_number(r)),
+        Err(refusal) => refused(refusal),
     }
 }
 
@@ -81,75 +69,76 @@ fn reasoned(value: u32, place: u32, phase: u32) -> Told
     }
 }
 
-pub fn told_why(a: WhyAnswer) -> Told
+pub fn told_why(a: Result<Reason, Refusal>) -> Told
     ensures { result ≡ told_why a }
 {
     match a {
-        WhyAnswer::ExcludedBy(i) => reasoned(1, i, 0),
-        WhyAnswer::PlcBy(i) => reasoned(2, i, 0),
-        WhyAnswer::PilotBelow(x) => reasoned(3, x, 0),
-        WhyAnswer::PilotAbove(x) => reasoned(4, x, 0),
-        WhyAnswer::PilotBy(i) => reasoned(5, i, 0),
-        WhyAnswer::ScatteredOnly(q) => reasoned(6, 0, q),
-        WhyAnswer::DataBut(q) => reasoned(7, 0, q),
-        WhyAnswer::Refused(g, place) => refusal(g, place),
+        Ok(Reason::ExcludedBy(i)) => reasoned(1, i, 0),
+        Ok(Reason::PlcBy(i)) => reasoned(2, i, 0),
+        Ok(Reason::PilotBelow(x)) => reasoned(3, x, 0),
+        Ok(Reason::PilotAbove(x)) => reasoned(4, x, 0),
+        Ok(Reason::PilotBy(i)) => reasoned(5, i, 0),
+        Ok(Reason::ScatteredOnly(q)) => reasoned(6, 0, q),
+        Ok(Reason::DataBut(q)) => reasoned(7, 0, q),
+        Err(refusal) => refused(refusal),
     }
 }
 
-pub fn told_count(a: CountAnswer) -> Told
+// A verdict, whose value is N_I, or a count.
+pub fn told_count(a: Result<u32, Refusal>) -> Told
     ensures { result ≡ told_count a }
 {
     match a {
-        CountAnswer::Count(n) => valued(n),
-        CountAnswer::Refused(g, place) => refusal(g, place),
+        Ok(n) => valued(n),
+        Err(refusal) => refused(refusal),
     }
 }
 
-pub fn told_start(a: StartAnswer) -> Told
+pub fn told_start(a: Result<EmitterState, Refusal>) -> Told
     ensures { result ≡ told_start a }
 {
     match a {
-        StartAnswer::Started(e) => Told {
+        Ok(e) => Told {
             number: 0,
             place: 0,
             phase: e.phase,
             heard: 0,
             value: 0,
         },
-        StartAnswer::Refused(g, place) => refusal(g, place),
+        Err(refusal) => refused(refusal),
     }
 }
 
-pub fn told_listen(a: ListenAnswer) -> Told
+pub fn told_listen(a: Result<ReceiverState, Refusal>) -> Told
     ensures { result ≡ told_listen a }
 {
     match a {
-        ListenAnswer::Started(v) => Told {
+        Ok(v) => Told {
             number: 0,
             place: 0,
             phase: v.phase,
             heard: v.heard,
             value: 0,
         },
-        ListenAnswer::Refused(g, place) => refusal(g, place),
+        Err(refusal) => refused(refusal),
     }
 }
 
-pub fn told_send(a: SendAnswer) -> Told
+pub fn told_send(a: Result<EmitterState, RefusedStep<EmitterState>>) -> Told
     ensures { result ≡ told_send a }
 {
     match a {
-        SendAnswer::Sent(next) => Told {
+        Ok(next) => Told {
             number: 0,
             place: 0,
             phase: next.phase,
             heard: 0,
             value: 0,
         },
-        SendAnswer::Refused(g, at, e) => Told {
-            number: g,
-            place: at,
-            phase: e.phase,
+        Err(step) => Told {
+            number: step.refusal.number,
+            place: step.refusal.place,
+            phase: step.state.phase,
             heard: 0,
             value: 0,
         },
@@ -169,33 +158,33 @@ fn told_state(v: ReceiverState, count: u32) -> Told
     }
 }
 
-pub fn told_receive(a: ReceiveAnswer) -> Told
+pub fn told_receive(a: Result<Heard<ReceiverState>, RefusedStep<ReceiverState>>) -> Told
     ensures { result ≡ told_receive a }
 {
     match a {
-        ReceiveAnswer::Warming(v) => told_state(v, 0),
-        ReceiveAnswer::Data(v, n) => told_state(v, n),
-        ReceiveAnswer::Refused(g, at, v) => Told {
-            number: g,
-            place: at,
-            phase: v.phase,
-            heard: v.heard,
+        Ok(Heard::Warming(v)) => told_state(v, 0),
+        Ok(Heard::Data(v, n)) => told_state(v, n),
+        Err(away) => Told {
+            number: away.refusal.number,
+            place: away.refusal.place,
+            phase: away.state.phase,
+            heard: away.state.heard,
             value: 0,
         },
     }
 }
 
-pub fn told_modulate(a: ModulateAnswer) -> Told
+pub fn told_modulate(a: Result<(), RefusedPoint>) -> Told
     ensures { result ≡ told_modulate a }
 {
     match a {
-        ModulateAnswer::Modulated => valued(0),
-        ModulateAnswer::Refused(g, at, subcarrier) => Told {
-            number: g,
-            place: at,
+        Ok(()) => valued(0),
+        Err(point) => Told {
+            number: point.refusal.number,
+            place: point.refusal.place,
             phase: 0,
             heard: 0,
-            value: subcarrier,
+            value: point.subcarrier,
         },
     }
 }

@@ -5,11 +5,9 @@
 ghost use Rattle.console.specs.Reading.{Holds};
 ghost use Rattle.words.specs.Word.{UpTo};
 
-use console::Input;
 use std::env::{Env, FillError};
 use std::fs;
 use std::rt::Files;
-use words::Word;
 
 // Whether the program was given word i, counted from 1.
 fn is_given<R: Env>(rt: &R, i: usize) -> bool {
@@ -30,49 +28,38 @@ pub fn word_count<R: Env>(rt: &R) -> usize {
     usize::MAX
 }
 
-// The number up to `most` that word i spells, counted from 1. A word that is missing or longer than 64 bytes is malformed, like one that is
+// The number up to `most` that word i spells, counted from 1. A word that is missing or longer than 64 bytes says none, like one that is
 // no such number.
-pub fn number_word<R: Env>(rt: &R, i: usize, most: u32) -> Word
+pub fn number_word<R: Env>(rt: &R, i: usize, most: u32) -> Option<u32>
     ensures { UpTo most result }
 {
     let mut bytes = [0u8; 64];
-    match rt.arg(i, &mut bytes) {
-        Ok(n) => words::word_number(&bytes[..n], most),
-        Err(_) => Word::Malformed,
-    }
+    let n = rt.arg(i, &mut bytes).ok()?;
+    words::word_number(&bytes[..n], most)
 }
 
 // Reads the file of this name until the bytes are full or the file ends.
-fn read_named<R: Files>(rt: &R, name: &str, bytes: &mut [u8]) -> Input
+fn read_named<R: Files>(rt: &R, name: &str, bytes: &mut [u8]) -> Option<usize>
     ensures { Holds result bytes.new }
 {
-    match fs::open(rt, name) {
-        Ok(file) => {
-            let mut opened = file;
-            console::read_open(&mut opened, bytes)
-        }
-        Err(_) => Input::Failed,
-    }
+    let mut file = fs::open(rt, name).ok()?;
+    console::read_open(&mut file, bytes)
 }
 
 // The same where the name is bytes: those that are no text name no file.
-fn read_path<R: Files>(rt: &R, path: &[u8], bytes: &mut [u8]) -> Input
+fn read_path<R: Files>(rt: &R, path: &[u8], bytes: &mut [u8]) -> Option<usize>
     ensures { Holds result bytes.new }
 {
-    match str::from_utf8(path) {
-        Ok(name) => read_named(rt, name, bytes),
-        Err(_) => Input::Failed,
-    }
+    let name = str::from_utf8(path).ok()?;
+    read_named(rt, name, bytes)
 }
 
-// Reads the file that word i names, counted from 1, until the bytes are full or the file ends. It has failed where the word is missing or
+// Reads the file that word i names, counted from 1, until the bytes are full or the file ends; none where the word is missing or
 // names no file that can be opened, and where a read fails, as of a folder.
-pub fn read_file<R: Env + Files>(rt: &R, i: usize, bytes: &mut [u8]) -> Input
+pub fn read_file<R: Env + Files>(rt: &R, i: usize, bytes: &mut [u8]) -> Option<usize>
     ensures { Holds result bytes.new }
 {
     let mut path = io::buffer();
-    match rt.arg(i, &mut path) {
-        Ok(n) => read_path(rt, &path[..n], bytes),
-        Err(_) => Input::Failed,
-    }
+    let n = rt.arg(i, &mut path).ok()?;
+    read_path(rt, &path[..n], bytes)
 }

@@ -3,7 +3,7 @@ use Prim.Native.Nat.{ℕ, ◌+◌, ◌%◌, ◌<◌}
 use mathlib.Core.Path.{◌≡◌, refl, sym, ap, ap₂, ◌∙◌}
 use mathlib.Core.Bool.{Bool, true, false, not}
 use mathlib.Core.List.{List}
-use mathlib.Core.Option.{none}
+use Rattle.std.specs.Prelude.{None}
 use native.Mathlib.Nat.{mod-eq_of_lt}
 use native.Mathlib.Omega.{arith}
 use lib.Dec.{eqb}
@@ -88,7 +88,7 @@ module _ (limits w y : List ℕ) (k r : ℕ) (e : r ≡ bit (allowed (get_or lim
   cell_right n = by_test (allowed (get_or limits k 0) (get_or w k 0) (get_or y k 0)) (λ t. ap not t) (λ t. absurd (n (e ∙ ap bit t)))
 
 -- where all fit, none is wrong
-pub all_fit : (t : ℕ → Bool) (n : ℕ) → count t n ≡ n → lowest (λ k. not (t k)) n ≡ none
+pub all_fit : (t : ℕ → Bool) (n : ℕ) → count t n ≡ n → lowest (λ k. not (t k)) n ≡ None
 all_fit t n e = none_lowest (λ k. not (t k)) n (λ k h. ap not (all_pass t n e k h))
 
 -- the limits of the profile and the marks m' with the scattered pilots of phase j find the lowest cell that its role does not ask for
@@ -114,7 +114,7 @@ allowed_under limit m y k = allowed limit (get_or m k 0) (get_or y k 0)
 pub none_wrong : (d : Device) (p : Plan) (w m m' y : List ℕ) (l j : ℕ) → l ≡ p.plc → Fits d → Marked d p m
     → ((k : ℕ) → k < d.subcarriers → get_or m' k 0 ≡ expected ((l + d.plc_width + j) % phases) m k)
     → ((k : ℕ) → k < d.subcarriers → allowed_under (limit_at w k) m' y k ≡ true)
-    → none ≡ lowest (wrong_cell (frame_of d p) w j y) d.subcarriers
+    → None ≡ lowest (wrong_cell (frame_of d p) w j y) d.subcarriers
 unfolding allowed_at
 none_wrong d p w m m' y l j e fits marked put fit =
     let n : ℕ = d.subcarriers in

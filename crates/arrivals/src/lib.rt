@@ -2,10 +2,8 @@
 // counts the cells that fit, without a branch to leave by, and looks for the wrong one only where some do not.
 #![tactic(auto)]
 
-ghost use Rattle.std.specs.Prelude.{◌≡◌, true, not, ℕ, ◌≤◌, ◌<◌, length, get_or};
+ghost use Rattle.std.specs.Prelude.{◌≡◌, true, not, ℕ, ◌≤◌, ◌<◌, length, get_or, Ok};
 ghost use Rattle.counting.specs.Search.{bit, count, lowest};
-ghost use Rattle.counting.specs.Answer.{place_of};
-ghost use Rattle.rules.specs.declared.Finding.TheVariants.{Fine};
 ghost use Rattle.rules.specs.Plan.{plan_of};
 ghost use Rattle.rules.specs.Fits.{Fits, capacity};
 ghost use Rattle.rules.specs.Frame.{frame_of, cells, spot, line_cells};
@@ -14,7 +12,7 @@ ghost use Rattle.rules.specs.Receive.{wrong_cell};
 ghost use Rattle.verdicts.specs.Studied.{Studied};
 ghost use Rattle.arrivals.specs.Expected.{allowed, allowed_at, scattered_mark, expected};
 
-use counting::{Found, wide};
+use counting::wide;
 use rules::Device;
 
 // Phases are 0 to 127.
@@ -38,10 +36,8 @@ fn scatter(marks: &mut [u16], width: usize, base: usize)
     requires { (base < 128) × (width ≤ 4096) × (width ≤ length marks.old) }
     ensures { (k : ℕ) → k < width → get_or marks.new k 0 ≡ expected base marks.old k }
 {
-    let mut k = base;
-    while k < width {
+    for k in (base..width).step_by(PHASES) {
         marks[k] = scattered_mark(marks[k]);
-        k = k + PHASES;
     }
 }
 
@@ -70,10 +66,8 @@ fn all_fit(limit: u16, marks: &[u16], symbol: &[u16]) -> bool
     ensures { result ≡ true → (k : ℕ) → k < length symbol.now → allowed limit (get_or marks.now k 0) (get_or symbol.now k 0) ≡ true }
 {
     let mut n: u16 = 0;
-    let mut k: usize = 0;
-    while k < symbol.len() {
-        n = n + cell_fits(limit, marks[k], symbol[k]);
-        k = k + 1;
+    for (k, x) in symbol.iter().enumerate() {
+        n += cell_fits(limit, marks[k], *x);
     }
     wide(n) == symbol.len()
 }
@@ -99,37 +93,33 @@ fn fitting_cells(limits: &[u16], marks: &[u16], symbol: &[u16]) -> u16
     ensures { result ≡ count (allowed_at limits.now marks.now symbol.now) (length symbol.now) }
 {
     let mut n: u16 = 0;
-    let mut k: usize = 0;
-    while k < symbol.len() {
-        n = n + cell_fits(limits[k], marks[k], symbol[k]);
-        k = k + 1;
+    for (k, x) in symbol.iter().enumerate() {
+        n += cell_fits(limits[k], marks[k], *x);
     }
     n
 }
 
 // The lowest subcarrier whose cell does not fit, by looking at one after the other.
-fn search_wrong(limits: &[u16], marks: &[u16], symbol: &[u16]) -> Found
+fn search_wrong(limits: &[u16], marks: &[u16], symbol: &[u16]) -> Option<u32>
     requires { (length symbol.now ≤ capacity) × (length symbol.now ≤ length limits.now) × (length symbol.now ≤ length marks.now) }
-    ensures { place_of result ≡ lowest (λ k. not (allowed_at limits.now marks.now symbol.now k)) (length symbol.now) }
+    ensures { result ≡ lowest (λ k. not (allowed_at limits.now marks.now symbol.now k)) (length symbol.now) }
 {
-    let mut place: usize = 0;
-    while place < symbol.len() {
+    for place in 0..symbol.len() {
         if cell_fits(limits[place], marks[place], symbol[place]) == 0 {
-            return Found::At(place as u32);
+            return Some(place as u32);
         }
-        place = place + 1;
     }
-    Found::Nothing
+    None
 }
 
 // The lowest subcarrier whose cell does not fit.
-fn first_wrong(limits: &[u16], marks: &[u16], symbol: &[u16]) -> Found
+fn first_wrong(limits: &[u16], marks: &[u16], symbol: &[u16]) -> Option<u32>
     requires { (length symbol.now ≤ capacity) × (length symbol.now ≤ length limits.now) × (length symbol.now ≤ length marks.now) }
-    ensures { place_of result ≡ lowest (λ k. not (allowed_at limits.now marks.now symbol.now k)) (length symbol.now) }
+    ensures { result ≡ lowest (λ k. not (allowed_at limits.now marks.now symbol.now k)) (length symbol.now) }
 {
     let n = fitting_cells(limits, marks, symbol);
     if wide(n) == symbol.len() {
-        return Found::Nothing;
+        return None;
     }
     search_wrong(limits, marks, symbol)
 }
@@ -143,14 +133,14 @@ pub fn wrong_cell(
     profile: &[u8],
     j: usize,
     symbol: &[u16],
-) -> Found
-    requires { Fits d × Studied d plan.now marks.old × (j ≤ 4096) × (length symbol.now ≡ d.subcarriers) × (ground25 d.subcarriers profile.now ≡ Fine) }
-    ensures { place_of result ≡ lowest (wrong_cell (frame_of d (plan_of plan.now)) profile.now j symbol.now) d.subcarriers }
+) -> Option<u32>
+    requires { Fits d × Studied d plan.now marks.old × (j ≤ 4096) × (length symbol.now ≡ d.subcarriers) × (ground25 d.subcarriers profile.now ≡ Ok tt) }
+    ensures { result ≡ lowest (wrong_cell (frame_of d (plan_of plan.now)) profile.now j symbol.now) d.subcarriers }
 {
     let l = records::number_at(plan, 4);
     scatter(marks, d.subcarriers, (l + d.plc_width + j) % PHASES);
     if fit_one_load(profile, marks, symbol) {
-        return Found::Nothing;
+        return None;
     }
     let n = profile.len();
     let mut limits = [0u16; 4096];
@@ -163,11 +153,8 @@ pub fn line_cells(d: Device, plan: &[u8], kc: &[u16], symbol: &[u16], x: &mut [u
     requires { Fits d × (length symbol.now ≡ d.subcarriers) × (length x.old ≡ cells (frame_of d (plan_of plan.now))) × (length x.old ≤ length kc.now) × ((p : ℕ) → p < length x.old → get_or kc.now p 0 ≡ spot (frame_of d (plan_of plan.now)) p) }
     ensures { x.new ≡ line_cells (frame_of d (plan_of plan.now)) symbol.now }
 {
-    let n = x.len();
-    let mut p: usize = 0;
-    while p < n {
+    for p in 0..x.len() {
         let k = wide(kc[p]);
         x[p] = symbol[k];
-        p = p + 1;
     }
 }

@@ -2,7 +2,7 @@
 use mathlib.Core.Path.{◌≡◌, refl, sym, ap, ap₂, ◌∙◌, subst}
 use mathlib.Core.Logic.{◌⊎◌, inl, inr}
 use mathlib.Core.Bool.{Bool, true, false, not, ◌&&◌, ◌||◌}
-use mathlib.Core.Option.{Option, none, get_or}
+use Rattle.std.specs.Prelude.{Option, None, unwrap_or}
 use Prim.Native.Nat.{ℕ, zero, suc, ◌+◌, ◌≤◌, ◌<◌}
 use native.Mathlib.Nat.{le_refl, le-suc, le_trans}
 use native.Mathlib.Omega.{arith}
@@ -10,7 +10,7 @@ use native.Mathlib.Decide.{le_ind}
 use lib.Dec.{ltb, leb, eqb}
 use borrow.Author.Tests.{lt-ltb, le-leb, lt-leb, eq-eqb, ne_eqb}
 use Rattle.counting.specs.Search.{or_else, first, lowest, highest}
-use Rattle.counting.specs.Runs.{All, None}
+use Rattle.counting.specs.Runs.{All, NoneIn}
 use Rattle.counting.proofs.Bools.{Less, decide, and_false, or_true}
 use Rattle.counting.proofs.Laws.{none_lowest}
 use Rattle.counting.proofs.Searches.{first_none, first_over, highest_at, lowest_at}
@@ -41,7 +41,7 @@ module _ (p : Plan) where
       u l h
 
   -- the run e to u - 1 after the gap k to e - 1
-  run_length : (k e u : ℕ) → k < e → None (excluded p) k e → e ≤ u → All (excluded p) e u → run_below p u + e ≡ u
+  run_length : (k e u : ℕ) → k < e → NoneIn (excluded p) k e → e ≤ u → All (excluded p) e u → run_below p u + e ≡ u
   run_length k zero u l gap m run = absurd (omega arith)
   run_length k (suc i) u l gap m run = below_run (suc i) u m (below_active i (gap i (omega arith) (omega arith))) run
 
@@ -83,7 +83,7 @@ module _ (d : Device) (p : Plan) where
   inside_start a s = record { starts = s; below = le_refl a; idle = λ j l w. absurd (omega arith) }
 
   -- over a gap k to e - 1 and a run e to u - 1: none starts below u
-  inside_over : 0 < d.exclusion_run → (a k e u : ℕ) → Inside a k → k < e → None (excluded p) k e → All (excluded p) e u → (j : ℕ) → a < j → j < u → starts_band d p j ≡ false
+  inside_over : 0 < d.exclusion_run → (a k e u : ℕ) → Inside a k → k < e → NoneIn (excluded p) k e → All (excluded p) e u → (j : ℕ) → a < j → j < u → starts_band d p j ≡ false
   inside_over pos a k e u s l gap run j m w = go (decide k j) (decide j e)
     where
       in-gap : (j : ℕ) → k < j → j ≤ e → starts_band d p j ≡ false
@@ -98,7 +98,7 @@ module _ (d : Device) (p : Plan) where
       go (inl (h, _)) (inr (h', _)) = no_start j (run j h' w)
 
   -- a short run: the band goes on
-  pub inside_short : 0 < d.exclusion_run → (a k e u : ℕ) → Inside a k → k < e → None (excluded p) k e → e < u → All (excluded p) e u → u < e + d.exclusion_run → Inside a u
+  pub inside_short : 0 < d.exclusion_run → (a k e u : ℕ) → Inside a k → k < e → NoneIn (excluded p) k e → e < u → All (excluded p) e u → u < e + d.exclusion_run → Inside a u
   inside_short pos a k e u s l gap m run short = record {
     starts = s.starts;
     below = omega (arith, s.below);
@@ -121,12 +121,12 @@ module _ (d : Device) (p : Plan) where
   abbrev later : ℕ → ℕ → Bool
   later a j = ltb a j && starts_band d p j
 
-  pub inside_long : 0 < d.exclusion_run → (a k b e u : ℕ) → Inside a k → k < e → e ≡ suc b → None (excluded p) k e → e < u → All (excluded p) e u → u ≤ d.subcarriers
+  pub inside_long : 0 < d.exclusion_run → (a k b e u : ℕ) → Inside a k → k < e → e ≡ suc b → NoneIn (excluded p) k e → e < u → All (excluded p) e u → u ≤ d.subcarriers
       → (u < d.subcarriers → excluded p u ≡ false) → (e + d.exclusion_run ≤ u) ⊎ (u ≡ d.subcarriers) → Ended a b u
   unfolding band_end next_band
   inside_long pos a k b e u s l is gap m run top free long = record {
-    end = ap (λ (n : ℕ). get_or (highest (active d p) n) 0) (next_is (decide u d.subcarriers))
-        ∙ ap (λ (o : Option ℕ). get_or o 0) (highest_at (active d p) b u (omega arith) (active_at b (omega arith) (gap b (omega arith) (omega arith))) (λ j l' w'. idle_at j (run j (omega arith) w')));
+    end = ap (λ (n : ℕ). unwrap_or (highest (active d p) n) 0) (next_is (decide u d.subcarriers))
+        ∙ ap (λ (o : Option ℕ). unwrap_or o 0) (highest_at (active d p) b u (omega arith) (active_at b (omega arith) (gap b (omega arith) (omega arith))) (λ j l' w'. idle_at j (run j (omega arith) w')));
     idle = over;
     next = λ w. starts w long;
   }
@@ -148,34 +148,34 @@ module _ (d : Device) (p : Plan) where
           at (inl (h, _)) = ap (λ (c : Bool). ltb a j && c) (over j h w) ∙ and_false (ltb a j)
           at (inr (h, t)) = ap (λ (c : Bool). c && starts_band d p j) t
 
-      next_is : Less u d.subcarriers → get_or (lowest (λ j. ltb a j && starts_band d p j) d.subcarriers) d.subcarriers ≡ u
+      next_is : Less u d.subcarriers → unwrap_or (lowest (λ j. ltb a j && starts_band d p j) d.subcarriers) d.subcarriers ≡ u
       next_is (inl (w, _)) =
-          ap (λ (o : Option ℕ). get_or o d.subcarriers)
+          ap (λ (o : Option ℕ). unwrap_or o d.subcarriers)
           (lowest_at (later a) u d.subcarriers w (ap₂ (λ (c f : Bool). c && f) (lt-ltb a u (omega (arith, s.below))) (starts w long)) (λ j _ w'. not_later j w'))
       next_is (inr (w, _)) =
           let same : u ≡ d.subcarriers = omega arith in
-          ap (λ (o : Option ℕ). get_or o d.subcarriers) (none_lowest (later a) d.subcarriers (λ j w'. not_later j (omega arith))) ∙ sym same
+          ap (λ (o : Option ℕ). unwrap_or o d.subcarriers) (none_lowest (later a) d.subcarriers (λ j w'. not_later j (omega arith))) ∙ sym same
 
   -- ---- searches over the bands
   module _ (f : ℕ → ℕ → Option ℕ) where
     -- what f finds in the band that starts at a, if one does
     unfoldable pub from_start : ℕ → Option ℕ
-    from_start a = elim (starts_band d p a) [ true ↦ f a (band_end d p a) | false ↦ none ]
+    from_start a = elim (starts_band d p a) [ true ↦ f a (band_end d p a) | false ↦ None ]
 
-    no_band : (k : ℕ) → starts_band d p k ≡ false → from_start k ≡ none
+    no_band : (k : ℕ) → starts_band d p k ≡ false → from_start k ≡ None
     unfolding from_start
-    no_band k e = λ i. elim (e i) [ true ↦ f k (band_end d p k) | false ↦ none ]
+    no_band k e = λ i. elim (e i) [ true ↦ f k (band_end d p k) | false ↦ None ]
 
     band : (a b : ℕ) → starts_band d p a ≡ true → band_end d p a ≡ b → from_start a ≡ f a b
     unfolding from_start
-    band a b e g = (λ i. elim (e i) [ true ↦ f a (band_end d p a) | false ↦ none ]) ∙ ap (f a) g
+    band a b e g = (λ i. elim (e i) [ true ↦ f a (band_end d p a) | false ↦ None ]) ∙ ap (f a) g
 
     pub bands_all : first_band d p f ≡ first from_start d.subcarriers
     unfolding first_band from_start
     bands_all = refl
 
     -- nothing starts in a run that touches 0
-    pub bands_start : (u : ℕ) → All (excluded p) 0 u → first from_start u ≡ none
+    pub bands_start : (u : ℕ) → All (excluded p) 0 u → first from_start u ≡ None
     bands_start u h = first_none from_start u (λ k w. no_band k (no_start k (h k (omega arith) w)))
 
     -- one band more

@@ -2,7 +2,7 @@
 use mathlib.Core.Path.{◌≡◌, sym, ap, ap₂, ◌∙◌, subst}
 use mathlib.Core.Logic.{◌⊎◌, inl, inr}
 use mathlib.Core.Bool.{true, false}
-use mathlib.Core.Option.{Option}
+use Rattle.std.specs.Prelude.{Option, None}
 use mathlib.Core.List.{List}
 use Prim.Native.Nat.{ℕ, suc, ◌+◌, ◌-◌, ◌≤◌, ◌<◌}
 use native.Mathlib.Nat.{le_refl}
@@ -11,7 +11,7 @@ use native.Mathlib.Omega.{arith}
 use lib.ListN.{length, get_or, set}
 use lib.Seq.{get_or-set_same, get_or-set_other}
 use Rattle.counting.specs.Search.{count, or_else, first}
-use Rattle.counting.specs.Runs.{All, None, Singles}
+use Rattle.counting.specs.Runs.{All, NoneIn, Singles}
 use Rattle.counting.proofs.Bools.{Less, decide}
 use Rattle.counting.proofs.Searches.{count_all, count_no, first_ext}
 use Rattle.rules.specs.declared.Device.{Device}
@@ -63,7 +63,7 @@ module _ (d : Device) (p : Plan) where
   }
 
   -- over a short run
-  pub walk_short : 0 < d.exclusion_run → (a b c x y : List ℕ) (k m s nx e u : ℕ) → Walk a b c x k m s nx → k < e → e < u → u ≤ d.subcarriers → None (excluded p) k e → All (excluded p) e u
+  pub walk_short : 0 < d.exclusion_run → (a b c x y : List ℕ) (k m s nx e u : ℕ) → Walk a b c x k m s nx → k < e → e < u → u ≤ d.subcarriers → NoneIn (excluded p) k e → All (excluded p) e u
       → u < e + d.exclusion_run → u < d.subcarriers → Pushed x y nx e u → Walk a b c y u m s (nx + (u - e))
   walk_short pos a b c x y k m s nx e u w l l' top gap run short less push = record {
     here = inl (less, inside_short d p pos s k e u (in-band s k w.here (omega arith)) l gap l' run short);
@@ -98,7 +98,7 @@ module _ (d : Device) (p : Plan) where
           (run v (omega arith) (omega arith), omega (arith, more v (omega arith) (omega arith), same, w.total))
 
   -- over a long run, or one that touches the end: one band more
-  pub walk_long : 0 < d.exclusion_run → (a b c x : List ℕ) (k m s nx e u : ℕ) → Walk a b c x k m s nx → k < e → e < u → u ≤ d.subcarriers → None (excluded p) k e → All (excluded p) e u
+  pub walk_long : 0 < d.exclusion_run → (a b c x : List ℕ) (k m s nx e u : ℕ) → Walk a b c x k m s nx → k < e → e < u → u ≤ d.subcarriers → NoneIn (excluded p) k e → All (excluded p) e u
       → (u < d.subcarriers → excluded p u ≡ false) → (e + d.exclusion_run ≤ u) ⊎ (u ≡ d.subcarriers) → m < length a → m < length b → m + 1 < length c
       → Walk (set a m s) (set b m (e - 1)) (set c (m + 1) nx) x u (m + 1) u nx
   unfolding first

@@ -1,4 +1,3 @@
 pub mod BandLaws
 pub mod BandWalk
-pub mod PushLaws
 pub mod Step

@@ -1,6 +1,5 @@
 -- The bands of a plan as lists, made from the runs of what it excludes. Assumes nothing.
-use Rattle.std.specs.Prelude.{ℕ, ◌+◌, ◌<◌, ◌≤◌, ◌≡◌, List, length, get_or}
-use Rattle.std.proofs.Math.Option.{Option}
+use Rattle.std.specs.Prelude.{ℕ, ◌+◌, ◌<◌, ◌≤◌, ◌≡◌, List, length, get_or, Option}
 use Rattle.counting.specs.Search.{first}
 use Rattle.counting.specs.Runs.{Runs, before, Singles}
 use Rattle.rules.specs.declared.Device.{Device}

@@ -26,14 +26,10 @@ fn push(x: &mut [u16; 4096], at: usize, e: usize, u: usize) -> usize
     requires { (length x.old ≡ capacity) × (e ≤ u) × (u ≤ capacity) × (at + (u - e) ≤ capacity) }
     ensures { (result ≡ at + (u - e)) × Pushed x.old x.new at e u × (length x.new ≡ capacity) }
 {
-    let mut y = e;
-    let mut q = at;
-    while y < u {
-        x[q] = y as u16;
-        q += 1;
-        y += 1;
+    for y in e..u {
+        x[at + (y - e)] = y as u16;
     }
-    q
+    at + (u - e)
 }
 
 // The bands from the runs: a their lowest subcarriers, b their highest, x the individually excluded, c where in x each band's begin.
@@ -56,11 +52,9 @@ pub fn bands(
     let mut m: usize = 0;
     let mut nx: usize = 0;
     let mut s = wide(hi[0]);
-    let mut i: usize = 1;
-    while i < n {
+    for i in 1..n {
         let e = wide(lo[i]);
         let u = wide(hi[i]);
-        i += 1;
         if separates(d.subcarriers, d.exclusion_run, e, u) {
             a[m] = s as u16;
             b[m] = (e - 1) as u16;

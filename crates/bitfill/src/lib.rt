@@ -35,15 +35,12 @@ fn fill_rest(
 {
     let mut byte = at;
     let mut o = bit;
-    let mut c = first;
-    while c < cells.len() {
+    for c in first..cells.len() {
         let l = number(loads[c]);
-        let w = window(stream, byte);
-        cells[c] = field(w, o, l);
+        cells[c] = field(window(stream, byte), o, l);
         let next = o + l;
-        byte = byte + (next / 8) as usize;
+        byte += (next / 8) as usize;
         o = next % 8;
-        c = c + 1;
     }
 }
 
@@ -55,15 +52,16 @@ pub fn fill_from(loads: &[u16], bits: usize, stream: &[u8], start: usize, cells:
     let mut at = start / 8;
     let mut bit = (start % 8) as u32;
     let mut left = bits;
-    let mut c: usize = 0;
+    let mut c = 0;
+    // Counted by hand: the loop ends by the bits that are left, which the loads decide, and not by `c`.
     while 64 <= left {
         let w = eight_at(stream, at);
         let l = fill_two(loads, w, bit, cells, c);
         let next = bit + l;
-        at = at + (next / 8) as usize;
+        at += (next / 8) as usize;
         bit = next % 8;
-        left = left - l as usize;
-        c = c + 2;
+        left -= l as usize;
+        c += 2;
     }
     fill_rest(loads, stream, start, at, bit, c, cells);
 }

@@ -47,11 +47,9 @@ fn put_cell(stream: &mut [u8], at: usize, bit: u32, l: u32, x: u32)
     requires { (bit < 8) × (l ≤ 14) × (at * 8 + bit + l ≤ length stream.old * 8) }
     ensures { stream_bits stream.new ≡ sets (stream_bits stream.old) (at * 8 + bit) (digits l x) }
 {
-    let mut i: u32 = 0;
-    while i < l {
+    for i in 0..l {
         let p = bit + i;
         put_bit(stream, at + (p / 8) as usize, p % 8, x >> i);
-        i = i + 1;
     }
 }
 
@@ -63,14 +61,12 @@ pub fn put_cells(loads: &[u16], cells: &[u16], stream: &mut [u8], at: usize, bit
 {
     let mut byte = at;
     let mut o = bit;
-    let mut c: usize = 0;
-    while c < cells.len() {
-        let l = number(loads[c]);
-        put_cell(stream, byte, o, l, number(cells[c]));
+    for (load, cell) in loads.iter().zip(cells) {
+        let l = number(*load);
+        put_cell(stream, byte, o, l, number(*cell));
         let next = o + l;
-        byte = byte + (next / 8) as usize;
+        byte += (next / 8) as usize;
         o = next % 8;
-        c = c + 1;
     }
     octets(stream);
 }

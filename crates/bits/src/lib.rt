@@ -19,12 +19,7 @@ pub fn sum_loads(loads: &[u16]) -> usize
     requires { (length loads.now ≤ capacity) × ((c : ℕ) → c < length loads.now → get_or loads.now c 0 ≤ 14) }
     ensures { (result ≡ total loads.now) × (result ≤ 14 * length loads.now) }
 {
-    let mut sum: u32 = 0;
-    let mut c: usize = 0;
-    while c < loads.len() {
-        sum = sum + number(loads[c]);
-        c = c + 1;
-    }
+    let sum: u32 = loads.iter().map(|load| u32::from(*load)).sum();
     sum as usize
 }
 

@@ -29,17 +29,18 @@ pub fn unfill_into(loads: &[u16], cells: &[u16], bits: usize, stream: &mut [u8],
     let mut bit = (start % 8) as u32;
     let mut held = below(stream, at, bit);
     let mut left = bits;
-    let mut c: usize = 0;
+    let mut c = 0;
+    // Counted by hand: the loop ends by the bits that are left, which the loads decide, and not by `c`.
     while 64 <= left {
         let l = four_loads(loads, c);
         let v = four_cells(loads, cells, c, bit, held);
         put_eight(stream, at, v);
         let next = bit + l;
         held = v >> (next / 8 * 8);
-        at = at + (next / 8) as usize;
+        at += (next / 8) as usize;
         bit = next % 8;
-        left = left - l as usize;
-        c = c + 4;
+        left -= l as usize;
+        c += 4;
     }
     put_cells(&loads[c..], &cells[c..], stream, at, bit);
 }

@@ -30,10 +30,8 @@ fn read_pairs(b: &[u8], cells: &mut [u16])
     requires { length b.now ≡ 2 * length cells.old }
     ensures { cells.new ≡ tabulate (low_first b.now) (length cells.old) }
 {
-    let mut i = 0;
-    while i < cells.len() {
-        cells[i] = join(b[2 * i + 1], b[2 * i]);
-        i += 1;
+    for (i, cell) in cells.iter_mut().enumerate() {
+        *cell = join(b[2 * i + 1], b[2 * i]);
     }
 }
 
@@ -48,10 +46,8 @@ fn swap(x: u16) -> u16
 fn swap_cells(cells: &mut [u16])
     ensures { cells.new ≡ tabulate (λ i. swapped (get_or cells.old i 0)) (length cells.old) }
 {
-    let mut i = 0;
-    while i < cells.len() {
-        cells[i] = swap(cells[i]);
-        i += 1;
+    for cell in cells.iter_mut() {
+        *cell = swap(*cell);
     }
 }
 

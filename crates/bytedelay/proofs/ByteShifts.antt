@@ -10,7 +10,6 @@ use lib.ListN.{length, get_or}
 use lib.Seq.{ext_get_or}
 use borrow.Author.Tests.{lt-ltb, le-ltb}
 use Rattle.counting.specs.Search.{pick}
-use Rattle.counting.proofs.Stride.{Upto}
 use Rattle.bytecells.specs.Octets.{cells_of, bytes_of, Whole}
 use Rattle.bytecells.proofs.OctetLaws.{length_bytes, whole_length}
 use Rattle.delay.specs.Shift.{shifted}
@@ -33,10 +32,10 @@ low_at (x ∷ c) (suc i) = let e : 2 * suc i + 1 ≡ suc (suc (2 * i + 1)) = ome
 -- ---- the shift
 
 -- byte q after the shift of n cells
-unfoldable pub next_byte : ℕ → List ℕ → ℕ → ℕ
+unfoldable next_byte : ℕ → List ℕ → ℕ → ℕ
 next_byte n s q = pick (ltb (q + 2) (2 * n)) (get_or s (q + 2) 0) (get_or s q 0)
 
-pub byte_in : (n : ℕ) (s : List ℕ) (q : ℕ) → q + 2 < 2 * n → next_byte n s q ≡ get_or s (q + 2) 0
+byte_in : (n : ℕ) (s : List ℕ) (q : ℕ) → q + 2 < 2 * n → next_byte n s q ≡ get_or s (q + 2) 0
 unfolding next_byte
 byte_in n s q h = rw (lt-ltb (q + 2) (2 * n) h) refl
 
@@ -60,12 +59,12 @@ any_next n c q h =
     (λ z. let e : q ≡ 2 * (q / 2) + 0 = omega arith in rw e (one_next n c 0 (λ x. x / 256) (omega arith) high_at (q / 2) (omega arith)))
     (λ z. let e : q ≡ 2 * (q / 2) + 1 = omega arith in rw e (one_next n c 1 (λ x. x % 256) (omega arith) low_at (q / 2) (omega arith)))
 
-pub next_all : (n : ℕ) (s l : List ℕ) (k : ℕ) → Whole s → length l ≡ length s → 2 * n ≤ k + 2 → Upto (length s) k (next_byte n s) (λ q. get_or s q 0) l
-    → l ≡ bytes_of (shifted n (cells_of s))
-next_all n s l k w e h u =
+-- bytes that were copied two places down
+pub next_all : (n : ℕ) (s l : List ℕ) → Whole s → length l ≡ length s
+    → ((q : ℕ) → q + 2 < 2 * n → get_or l q 0 ≡ get_or s (q + 2) 0) → ((q : ℕ) → 2 * n ≤ q + 2 → get_or l q 0 ≡ get_or s q 0) → l ≡ bytes_of (shifted n (cells_of s))
+next_all n s l w e moved kept =
     ext_get_or 0 l (bytes_of (shifted n (cells_of s)))
     (e ∙ whole_length s w ∙ sym (length_bytes (shifted n (cells_of s)) ∙ ap (λ (x : ℕ). 2 * x) (length_shifted n (cells_of s))))
     (λ q hq.
-    let hq' : q < length s = omega arith in
-    by_cases (dec_lt q k) (λ c. u.done q hq' c) (λ c. u.rest q hq' (omega arith) ∙ sym (byte_out n s q (omega arith)))
+    by_cases (dec_lt (q + 2) (2 * n)) (λ c. moved q c ∙ sym (byte_in n s q c)) (λ c. kept q (omega arith) ∙ sym (byte_out n s q (omega arith)))
     ∙ ap (λ (b : List ℕ). next_byte n b q) (sym w) ∙ any_next n (cells_of s) q (omega (arith, whole_length s w)))

@@ -18,15 +18,13 @@ fn pass(emitter: bool, m: usize, store: &mut [u8], cells: &mut [u16]) -> u16
     ensures passed { Exchanged (end_delay emitter m) (cells_of store.old) cells.old (length cells.old) (cells_of store.new) cells.new (places_before (end_delay emitter m) (length cells.old)) result }
 {
     let n = cells.len();
-    let mut p = least(first_cell(emitter), n);
     let mut at = 0;
     let mut last = 0;
-    while p < n {
+    for p in (first_cell(emitter)..n).step_by(m) {
         let e = least(p + (m - 1), n);
         let passed = pass_group(emitter, m, p, e, at, last, store, cells);
         at = passed.at;
         last = passed.last;
-        p = least(e + 1, n);
     }
     last
 }
@@ -36,10 +34,8 @@ fn shift(store: &mut [u8], n: usize)
     requires { Whole store.old × (2 * n ≤ length store.old) }
     ensures { store.new ≡ bytes_of (shifted n (cells_of store.old)) }
 {
-    let mut k = 0;
-    while k + 2 < 2 * n {
-        store[k] = store[k + 2];
-        k += 1;
+    if 0 < n {
+        store.copy_within(2..2 * n, 0);
     }
 }
 

@@ -109,26 +109,19 @@ fn pass_pairs(
     ensures at { Whole store.new × At emitter m b e (cells_of store.new) cells.new result.p result.d result.at × (e ≤ result.p + 1) }
     ensures passed { Passes (end_delay emitter m) from.p (cells_of store.old) cells.old from.at from.last result.p (cells_of store.new) cells.new result.at result.last }
 {
-    let mut p = from.p;
-    let mut d = from.d;
-    let mut at = from.at;
-    let mut last = from.last;
-    while p + 1 < e {
-        let second = at + d;
-        let next = next_delay(emitter, d);
-        let newest = exchange_two(at, second, p, last, store, cells);
-        let after = next_delay(emitter, next);
-        last = newest;
-        at = second + next;
-        d = after;
-        p += 2;
+    let mut to = from;
+    for _ in 0..(e - from.p) / 2 {
+        let second = to.at + to.d;
+        let next = next_delay(emitter, to.d);
+        let newest = exchange_two(to.at, second, to.p, to.last, store, cells);
+        to = Reached {
+            p: to.p + 2,
+            d: next_delay(emitter, next),
+            at: second + next,
+            last: newest,
+        };
     }
-    Reached {
-        p: p,
-        d: d,
-        at: at,
-        last: last,
-    }
+    to
 }
 
 // The pass over cells b to e - 1, of one group of m, which all have places. They begin at place `start`, and `came` came in before them. Pairs begin

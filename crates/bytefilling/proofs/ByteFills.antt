@@ -4,14 +4,13 @@ use mathlib.Core.Path.{◌≡◌, refl, sym, ap, ◌∙◌}
 use mathlib.Core.Bool.{true, false}
 use mathlib.Core.List.{List}
 use Rattle.rules.specs.declared.Device.{Device}
-use Rattle.rules.specs.declared.CountAnswer.{CountAnswer}
-use Rattle.rules.specs.declared.CountAnswer.TheVariants.{Refused}
+use Rattle.rules.specs.Refusals.{CountAnswer, refused_by}
 use Rattle.rules.specs.Filling.{fills, fill_step, unfill_step}
 use Rattle.bytecells.specs.Octets.{cells_of, bytes_of, odd, Whole}
 use Rattle.bytecells.specs.ByteSteps.{filled_bytes, fill_bytes, unfill_bytes}
 
 module _ (d : Device) (s w : List ℕ) (j : ℕ) (stream : List ℕ) (a : ℕ) (room : List ℕ) where
-  pub fill_odd : odd room ≡ true → fills (Refused 21 0) room ≡ fill_bytes d s w j stream a room
+  pub fill_odd : odd room ≡ true → fills (refused_by 21 0) room ≡ fill_bytes d s w j stream a room
   unfolding fill_bytes
   fill_odd e = rw e refl
 
@@ -29,7 +28,7 @@ module _ (d : Device) (s w : List ℕ) (j : ℕ) (stream : List ℕ) (a : ℕ) (
     fill_stays u r h = fill_left r room (cells_of room) (sym u) h
 
 module _ (d : Device) (s w : List ℕ) (j : ℕ) (ds : List ℕ) (a : ℕ) (stream : List ℕ) where
-  pub unfill_odd : odd ds ≡ true → fills (Refused 21 0) stream ≡ unfill_bytes d s w j ds a stream
+  pub unfill_odd : odd ds ≡ true → fills (refused_by 21 0) stream ≡ unfill_bytes d s w j ds a stream
   unfolding unfill_bytes
   unfill_odd e = rw e refl
 

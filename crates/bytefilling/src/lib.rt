@@ -10,7 +10,7 @@ ghost use Rattle.rules.specs.Filling.{fills};
 ghost use Rattle.bytecells.specs.Octets.{bytes_of};
 ghost use Rattle.bytecells.specs.ByteSteps.{fill_bytes, unfill_bytes};
 
-use rules::CountAnswer;
+use rules::Refusal;
 
 // Cells of the loads, filled from the stream at a bit, as bytes.
 fn fill_into(loads: &[u16], bits: usize, stream: &[u8], start: usize, input: &mut [u8])
@@ -31,28 +31,27 @@ pub fn fill(
     stream: &[u8],
     start: usize,
     input: &mut [u8],
-) -> CountAnswer
+) -> Result<u32, Refusal>
     ensures { fills result input.new ≡ fill_bytes khz50 plan.now profile.now phase stream.now start input.old }
 {
     if bytecells::halved(input) {
-        return CountAnswer::Refused(21, 0);
+        return Err(Refusal {
+            number: 21,
+            place: 0,
+        });
     }
     let d = rules::khz50_device();
     let n = input.len() / 2;
     let mut loads = [0u16; 4096];
-    match filling::measure(d, plan, profile, phase, n, stream.len(), start, &mut loads) {
-        CountAnswer::Refused(g, place) => CountAnswer::Refused(g, place),
-        CountAnswer::Count(need) => {
-            fill_into(
-                &loads[..n],
-                need as usize,
-                stream,
-                filling::from_bit(start, need),
-                input,
-            );
-            CountAnswer::Count(need)
-        }
-    }
+    let need = filling::measure(d, plan, profile, phase, n, stream.len(), start, &mut loads)?;
+    fill_into(
+        &loads[..n],
+        need as usize,
+        stream,
+        filling::from_bit(start, need),
+        input,
+    );
+    Ok(need)
 }
 
 // The way back: puts the bits of a data symbol at a phase into a bit stream in bytes, from a bit on; other bits stay. The answer is how many
@@ -64,20 +63,19 @@ pub fn unfill(
     input: &[u8],
     start: usize,
     stream: &mut [u8],
-) -> CountAnswer
+) -> Result<u32, Refusal>
     ensures { fills result stream.new ≡ unfill_bytes khz50 plan.now profile.now phase input.now start stream.old }
 {
     if bytecells::halved(input) {
-        return CountAnswer::Refused(21, 0);
+        return Err(Refusal {
+            number: 21,
+            place: 0,
+        });
     }
     let d = rules::khz50_device();
     let mut cells = [0u16; 4096];
     let n = bytecells::read_first(input, &mut cells);
     let mut loads = [0u16; 4096];
-    match filling::measure(d, plan, profile, phase, n, stream.len(), start, &mut loads) {
-        CountAnswer::Refused(g, place) => CountAnswer::Refused(g, place),
-        CountAnswer::Count(need) => {
-            filling::put_back(&loads[..n], &cells[..n], need, start, stream)
-        }
-    }
+    let need = filling::measure(d, plan, profile, phase, n, stream.len(), start, &mut loads)?;
+    filling::put_back(&loads[..n], &cells[..n], need, start, stream)
 }

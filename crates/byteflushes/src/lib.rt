@@ -31,22 +31,18 @@ fn put_placeholder(store: &mut [u8], at: usize, delay: usize, i: usize)
     }
 }
 
-// The placeholders among the places of the cells, whose subcarriers are kc: of each cell at most one. Now the pattern stands on the subcarriers
-// that are `base` modulo 128.
+// The placeholders among the places of the cells, whose subcarriers are kc: of each cell at most one. Now the pattern stands on the
+// subcarriers that are `base` modulo 128.
 fn put_placeholders(m: usize, base: usize, kc: &[u16], store: &mut [u8])
     requires { (0 < m) × (m ≤ capacity) × (length kc.now ≤ capacity) × Whole store.old × (2 * places_before (emitter_delay m) (length kc.now) ≤ length store.old) }
     ensures { store.new ≡ bytes_of (with_placeholders m base kc.now (cells_of store.old) (length kc.now)) }
 {
-    let mut p = 0;
     let mut at = 0;
     let mut delay = 0;
-    while p < kc.len() {
-        let i = pattern::symbols_until(base, kc[p]);
-        put_placeholder(store, at, delay, i);
-        at = at + delay;
-        let next = flushes::next_delay(delay, m);
-        delay = next;
-        p += 1;
+    for k in kc {
+        put_placeholder(store, at, delay, pattern::symbols_until(base, *k));
+        at += delay;
+        delay = flushes::next_delay(delay, m);
     }
 }
 

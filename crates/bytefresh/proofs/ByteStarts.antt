@@ -7,10 +7,7 @@ use native.Mathlib.Omega.{arith}
 use lib.ListN.{length}
 use Rattle.counting.specs.Search.{pick}
 use Rattle.rules.specs.declared.Device.{Device}
-use Rattle.rules.specs.declared.StartAnswer.{StartAnswer}
-use Rattle.rules.specs.declared.ListenAnswer.{ListenAnswer}
-use Rattle.rules.specs.declared.StartAnswer.TheVariants as a-start
-use Rattle.rules.specs.declared.ListenAnswer.TheVariants as a-listen
+use Rattle.rules.specs.Refusals.{StartAnswer, ListenAnswer, refused_by}
 use Rattle.rules.specs.Steps.{Starting, starts, start_step}
 use Rattle.rules.specs.Receive.{Listening, listens, listen_step}
 use Rattle.bytecells.specs.Octets.{cells_of, bytes_of, odd, Whole}
@@ -34,9 +31,9 @@ listen_written a b c r eb er = ap (listens a) eb ∙ ap (λ (x : Listening). lis
 
 module _ (d : Device) (s : List ℕ) (j : ℕ) (store : List ℕ) where
   start_by : Bool → Starting
-  start_by t = pick t (starts (a-start.Refused 21 0) store) (started_bytes (start_step d s j (cells_of store)))
+  start_by t = pick t (starts (refused_by 21 0) store) (started_bytes (start_step d s j (cells_of store)))
 
-  pub odd_start : odd store ≡ true → starts (a-start.Refused 21 0) store ≡ start_bytes d s j store
+  pub odd_start : odd store ≡ true → starts (refused_by 21 0) store ≡ start_bytes d s j store
   unfolding start_bytes start_by
   odd_start e = sym (ap start_by e)
 
@@ -45,9 +42,9 @@ module _ (d : Device) (s : List ℕ) (j : ℕ) (store : List ℕ) where
   even_start e = sym (ap start_by e)
 
   listen_by : Bool → Listening
-  listen_by t = pick t (listens (a-listen.Refused 21 0) store) (listened_bytes (listen_step d s j (cells_of store)))
+  listen_by t = pick t (listens (refused_by 21 0) store) (listened_bytes (listen_step d s j (cells_of store)))
 
-  pub odd_listen : odd store ≡ true → listens (a-listen.Refused 21 0) store ≡ listen_bytes d s j store
+  pub odd_listen : odd store ≡ true → listens (refused_by 21 0) store ≡ listen_bytes d s j store
   unfolding listen_bytes listen_by
   odd_listen e = sym (ap listen_by e)
 

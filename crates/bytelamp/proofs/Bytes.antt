@@ -7,8 +7,7 @@ use lib.ListN.{length}
 use borrow.Author.Tests.{lt-ltb, le-ltb}
 use Rattle.counting.proofs.Bools.{or_true}
 use Rattle.rules.specs.declared.Device.{Device}
-use Rattle.rules.specs.declared.CountAnswer.{CountAnswer}
-use Rattle.rules.specs.declared.CountAnswer.TheVariants.{Refused}
+use Rattle.rules.specs.Refusals.{CountAnswer, refused_by}
 use Rattle.bytecells.specs.Octets.{cells_of, odd}
 use Rattle.pilots.specs.Pilots.{pilots_most, pilots_answer}
 use Rattle.lampgrounds.specs.declared.LampAnswer.{LampAnswer}
@@ -16,7 +15,7 @@ use Rattle.lampgrounds.specs.Steps.{Hearing, leaves_record, lamp_step}
 use Rattle.bytelamp.specs.ByteLamp.{put_if, leaves_list, listed, leaves_lamp, with_lights, short_list, short_lights, pilots_bytes, lamp_bytes}
 
 module _ (d : Device) (s l : List ℕ) where
-  pub list_short : length l < 2 * pilots_most → leaves_list (Refused 21 0) l ≡ pilots_bytes d s l
+  pub list_short : length l < 2 * pilots_most → leaves_list (refused_by 21 0) l ≡ pilots_bytes d s l
   unfolding pilots_bytes short_list
   list_short h = rw (lt-ltb (length l) (2 * pilots_most) h) refl
 
@@ -25,11 +24,11 @@ module _ (d : Device) (s l : List ℕ) where
   list_left h = rw (le-ltb (length l) (2 * pilots_most) h) refl
 
   module _ (y r : List ℕ) where
-    pub lamp_odd : odd y ≡ true → leaves_lamp (Refused 21 0) r l ≡ lamp_bytes d s y r l
+    pub lamp_odd : odd y ≡ true → leaves_lamp (refused_by 21 0) r l ≡ lamp_bytes d s y r l
     unfolding lamp_bytes
     lamp_odd e = rw e refl
 
-    pub lamp_short : length l < pilots_most → leaves_lamp (Refused 21 0) r l ≡ lamp_bytes d s y r l
+    pub lamp_short : length l < pilots_most → leaves_lamp (refused_by 21 0) r l ≡ lamp_bytes d s y r l
     unfolding lamp_bytes short_lights
     lamp_short h = rw (lt-ltb (length l) pilots_most h, or_true (odd y)) refl
 

@@ -4,7 +4,6 @@
 #![tactic(auto)]
 
 ghost use Rattle.std.specs.Prelude.{◌*◌, ◌≤◌, ◌≡◌, length, get_or};
-ghost use Rattle.std.proofs.lemmas.List.Edits.{sets};
 ghost use Rattle.rules.specs.Device.{khz50};
 ghost use Rattle.rules.specs.Fits.{Fits};
 ghost use Rattle.bytecells.specs.Octets.{cells_of};
@@ -16,33 +15,30 @@ ghost use Rattle.bytelamp.specs.ByteLamp.{leaves_list, listed, leaves_lamp, put_
 use counting::wide;
 use lampgrounds::LampAnswer;
 use pilots::{PILOTS, PilotAnswer};
-use rules::{CountAnswer, Device};
+use rules::{Device, Refusal};
 
 // The bytes of a list of pilots, two for each.
 const LIST: usize = 256;
 
 // Puts the pilots into the buffer, if nothing refuses.
-fn put_list(p: PilotAnswer, list: &mut [u8]) -> CountAnswer
+fn put_list(p: PilotAnswer, list: &mut [u8]) -> Result<u32, Refusal>
     requires { (length p.list ≡ pilots_most) × (2 * pilots_most ≤ length list.old) }
     ensures { leaves_list result list.new ≡ listed p list.old }
 {
-    let answer = p.answer;
-    match answer {
-        CountAnswer::Refused(g, place) => CountAnswer::Refused(g, place),
-        CountAnswer::Count(n) => {
-            let numbers = p.list;
-            bytewrite::write_cells(list, 0, &numbers);
-            CountAnswer::Count(n)
-        }
-    }
+    let n = p.answer?;
+    bytewrite::write_cells(list, 0, &p.list);
+    Ok(n)
 }
 
 // The continuous pilots of a plan in rising order, two bytes each.
-pub fn pilots(plan: &[u8], list: &mut [u8]) -> CountAnswer
+pub fn pilots(plan: &[u8], list: &mut [u8]) -> Result<u32, Refusal>
     ensures { leaves_list result list.new ≡ pilots_bytes khz50 plan.now list.old }
 {
     if list.len() < LIST {
-        return CountAnswer::Refused(21, 0);
+        return Err(Refusal {
+            number: 21,
+            place: 0,
+        });
     }
     put_list(pilots::pilots(plan), list)
 }
@@ -62,10 +58,8 @@ fn cells_at(list: [u16; PILOTS], symbol: &[u8]) -> [u16; PILOTS]
     ensures { result ≡ cells_at list (cells_of symbol.now) }
 {
     let mut cells = [0u16; PILOTS];
-    let mut i: usize = 0;
-    while i < PILOTS {
-        cells[i] = cell_at(symbol, wide(list[i]));
-        i = i + 1;
+    for (i, k) in list.iter().enumerate() {
+        cells[i] = cell_at(symbol, wide(*k));
     }
     cells
 }
@@ -76,51 +70,42 @@ fn lamp_on(d: Device, plan: &[u8], symbol: &[u8], counts: &mut [u8]) -> LampAnsw
     ensures { leaves_record result counts.new ≡ lamp_step d plan.now counts.old (cells_of symbol.now) }
 {
     let p = lampgrounds::open_step(d, plan, symbol.len() / 2, counts);
-    let answer = p.answer;
-    let list = p.list;
-    match answer {
-        CountAnswer::Refused(g, place) => lampgrounds::refused(g, place),
-        CountAnswer::Count(n) => lampgrounds::hear(&cells_at(list, symbol), n, counts),
-    }
-}
-
-// Copies the lights to the start of the buffer.
-fn put_bytes(bytes: [u8; PILOTS], lights: &mut [u8])
-    requires { (length bytes ≡ pilots_most) × (pilots_most ≤ length lights.old) }
-    ensures { lights.new ≡ sets lights.old 0 bytes }
-{
-    let mut i: usize = 0;
-    while i < PILOTS {
-        lights[i] = bytes[i];
-        i = i + 1;
+    match p.answer {
+        Err(refusal) => lampgrounds::refused(refusal),
+        Ok(n) => lampgrounds::hear(&cells_at(p.list, symbol), n, counts),
     }
 }
 
 // Puts the lights into the buffer, if nothing refuses.
-fn put_lights(a: LampAnswer, lights: &mut [u8]) -> CountAnswer
+fn put_lights(a: LampAnswer, lights: &mut [u8]) -> Result<u32, Refusal>
     requires { (length a.lights ≡ pilots_most) × (pilots_most ≤ length lights.old) }
     ensures { (result ≡ a.answer) × (lights.new ≡ put_if a.answer a.lights lights.old) }
 {
-    let answer = a.answer;
-    match answer {
-        CountAnswer::Refused(g, place) => CountAnswer::Refused(g, place),
-        CountAnswer::Count(n) => {
-            let bytes = a.lights;
-            put_bytes(bytes, lights);
-            CountAnswer::Count(n)
-        }
-    }
+    let n = a.answer?;
+    lights[..PILOTS].copy_from_slice(&a.lights);
+    Ok(n)
 }
 
 // The lamp is given a symbol: its record goes on, and its lights go to the buffer, one byte a pilot.
-pub fn lamp(plan: &[u8], symbol: &[u8], counts: &mut [u8], lights: &mut [u8]) -> CountAnswer
+pub fn lamp(
+    plan: &[u8],
+    symbol: &[u8],
+    counts: &mut [u8],
+    lights: &mut [u8],
+) -> Result<u32, Refusal>
     ensures { leaves_lamp result counts.new lights.new ≡ lamp_bytes khz50 plan.now symbol.now counts.old lights.old }
 {
     if bytecells::halved(symbol) {
-        return CountAnswer::Refused(21, 0);
+        return Err(Refusal {
+            number: 21,
+            place: 0,
+        });
     }
     if lights.len() < PILOTS {
-        return CountAnswer::Refused(21, 0);
+        return Err(Refusal {
+            number: 21,
+            place: 0,
+        });
     }
     let answer = lamp_on(rules::khz50_device(), plan, symbol, counts);
     put_lights(answer, lights)

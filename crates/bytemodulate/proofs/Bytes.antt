@@ -8,13 +8,13 @@ use lib.Ieee.{Float}
 use borrow.Author.Tests.{ne_eqb}
 use Rattle.rules.specs.declared.Device.{Device}
 use Rattle.bytecells.specs.Octets.{cells_of, odd}
-use Rattle.modulator.specs.declared.ModulateAnswer.TheVariants.{Refused}
-use Rattle.modulator.specs.Symbols.{modulates, fitting, modulate_step}
+use Rattle.rules.specs.Refusals.{refusal}
+use Rattle.modulator.specs.Symbols.{refused_point, modulates, fitting, modulate_step}
 use Rattle.bytemodulate.specs.ByteSymbols.{modulate_bytes}
 
 module _ (b loads minus : List ℕ) (d : Device) (l : List Float) where
   -- refused by 21
-  pub refused_odd : odd b ≡ true → modulates (Refused 21 0 0) l ≡ modulate_bytes b loads minus d l
+  pub refused_odd : odd b ≡ true → modulates (refused_point (refusal 21 0) 0) l ≡ modulate_bytes b loads minus d l
   unfolding modulate_bytes
   refused_odd e = rw e refl
 
@@ -24,6 +24,6 @@ module _ (b loads minus : List ℕ) (d : Device) (l : List Float) where
   left_whole e = rw e refl
 
   -- refused by 17, for the number of cells
-  pub other_number : odd b ≡ false → (length (cells_of b) ≡ d.subcarriers → ⊥) → modulates (Refused 17 0 0) l ≡ modulate_bytes b loads minus d l
+  pub other_number : odd b ≡ false → (length (cells_of b) ≡ d.subcarriers → ⊥) → modulates (refused_point (refusal 17 0) 0) l ≡ modulate_bytes b loads minus d l
   unfolding modulate_bytes modulate_step fitting
   other_number e h = rw (e, ne_eqb (length (cells_of b)) d.subcarriers h) refl

@@ -4,9 +4,9 @@ use Rattle.std.specs.Prelude.{ℕ, List, Float}
 use Rattle.counting.specs.Search.{pick}
 use Rattle.rules.specs.declared.Device.{Device}
 use Rattle.bytecells.specs.Octets.{cells_of, odd}
-use Rattle.modulator.specs.declared.ModulateAnswer.TheVariants.{Refused}
-use Rattle.modulator.specs.Symbols.{Modulating, modulates, modulate_step}
+use Rattle.rules.specs.Refusals.{refusal}
+use Rattle.modulator.specs.Symbols.{Modulating, refused_point, modulates, modulate_step}
 
 -- the bytes of a symbol on the line, the load of each subcarrier, the sign of each subcarrier's pilot, and the lent modulator symbol
 unfoldable pub modulate_bytes : List ℕ → List ℕ → List ℕ → Device → List Float → Modulating
-modulate_bytes bytes loads minus d l = pick (odd bytes) (modulates (Refused 21 0 0) l) (modulate_step (cells_of bytes) loads minus d l)
+modulate_bytes bytes loads minus d l = pick (odd bytes) (modulates (refused_point (refusal 21 0) 0) l) (modulate_step (cells_of bytes) loads minus d l)

@@ -9,8 +9,7 @@ use Rattle.counting.specs.Search.{count, is_zero}
 use Rattle.counting.proofs.Lists.{length_tabulate, sets_all}
 use Rattle.rules.specs.declared.Device.{Device}
 use Rattle.rules.specs.declared.ReceiverState.{ReceiverState}
-use Rattle.rules.specs.declared.ReceiveAnswer.{ReceiveAnswer}
-use Rattle.rules.specs.declared.ReceiveAnswer.TheVariants.{Refused}
+use Rattle.rules.specs.Refusals.{ReceiveAnswer, refusal, refused_step}
 use Rattle.rules.specs.Receive.{Receiving, hears, receive_step}
 use Rattle.fill.specs.Flags.{taken_data}
 use Rattle.bytecells.specs.Octets.{cells_of, bytes_of, odd}
@@ -29,7 +28,7 @@ taken_fills flag x g e = sets_all g (taken_data flag x) (sym e ∙ sym (length_t
 
 module _ (d : Device) (s w : List ℕ) (v : ReceiverState) (store y b : List ℕ) where
   -- refused by 21
-  pub refused_odd : (odd store || odd y || odd b) ≡ true → hears (Refused 21 0 v) store b ≡ receive_bytes d s w v store y b
+  pub refused_odd : (odd store || odd y || odd b) ≡ true → hears (refused_step (refusal 21 0) v) store b ≡ receive_bytes d s w v store y b
   unfolding receive_bytes
   refused_odd e = rw e refl
 

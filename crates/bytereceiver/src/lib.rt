@@ -17,8 +17,7 @@ ghost use Rattle.bytecells.specs.Octets.{cells_of, bytes_of, odd, Whole};
 ghost use Rattle.bytecells.specs.ByteSteps.{heard_bytes, receive_bytes};
 ghost use Rattle.receivegrounds.specs.InOrder.{ReceiveInOrder, Prepared, Spots};
 
-use receivegrounds::Admission;
-use rules::{Device, ReceiveAnswer, ReceiverState};
+use rules::{Device, Heard, ReceiverState, Refusal, RefusedStep};
 
 // Whether a lent cell buffer has odd length (ground 21).
 fn some_halved(store: &[u8], symbol: &[u8], buffer: &[u8]) -> bool
@@ -67,7 +66,7 @@ fn hear(
     y: &[u16],
     store: &mut [u8],
     buffer: &mut [u8],
-) -> ReceiveAnswer
+) -> Result<Heard<ReceiverState>, RefusedStep<ReceiverState>>
     requires { Fits d × Whole store.old × Whole buffer.old × ReceiveInOrder (frame_of d (plan_of plan.now)) (record { state = state; store = cells_of store.old }) (record { profile = []; symbol = y.now; buffer = cells_of buffer.old }) m n nd × Prepared (frame_of d (plan_of plan.now)) (out_phase (frame_of d (plan_of plan.now)) state.phase) kc.now flag.now }
     ensures { hears result store.new buffer.new ≡ heard_bytes (received (frame_of d (plan_of plan.now)) (record { state = state; store = cells_of store.old }) (record { profile = []; symbol = y.now; buffer = cells_of buffer.old })) }
 {
@@ -75,10 +74,10 @@ fn hear(
     take_in(d, plan, m, kc, y, store, &mut x[..n]);
     let next = receiving::next_state(m, state);
     if receiving::warms(state.heard, m) {
-        return ReceiveAnswer::Warming(next);
+        return Ok(Heard::Warming(next));
     }
     hand_out(&x[..n], flag, nd as usize, buffer);
-    ReceiveAnswer::Data(next, nd)
+    Ok(Heard::Data(next, nd))
 }
 
 // A receive step over bytes of whole cells.
@@ -89,7 +88,7 @@ fn receive_whole(
     store: &mut [u8],
     symbol: &[u8],
     buffer: &mut [u8],
-) -> ReceiveAnswer
+) -> Result<Heard<ReceiverState>, RefusedStep<ReceiverState>>
     requires { Whole store.old × Whole symbol.now × Whole buffer.old }
     ensures { hears result store.new buffer.new ≡ heard_bytes (receive_step khz50 plan.now profile.now state (cells_of store.old) (cells_of symbol.now) (cells_of buffer.old)) }
 {
@@ -110,10 +109,10 @@ fn receive_whole(
         &mut kc,
         &mut flag,
     ) {
-        Admission::Refused(g, place) => ReceiveAnswer::Refused(g, place, state),
-        Admission::Admitted(m, n, nd) => {
-            hear(d, plan, m, n, nd, state, &kc, &flag, &y, store, buffer)
-        }
+        Err(refusal) => Err(RefusedStep { refusal, state }),
+        Ok(a) => hear(
+            d, plan, a.depth, a.cells, a.count, state, &kc, &flag, &y, store, buffer,
+        ),
     }
 }
 
@@ -126,11 +125,17 @@ pub fn receive(
     store: &mut [u8],
     symbol: &[u8],
     buffer: &mut [u8],
-) -> ReceiveAnswer
+) -> Result<Heard<ReceiverState>, RefusedStep<ReceiverState>>
     ensures { hears result store.new buffer.new ≡ receive_bytes khz50 plan.now profile.now state store.old symbol.now buffer.old }
 {
     if some_halved(store, symbol, buffer) {
-        return ReceiveAnswer::Refused(21, 0, state);
+        return Err(RefusedStep {
+            refusal: Refusal {
+                number: 21,
+                place: 0,
+            },
+            state,
+        });
     }
     receive_whole(plan, profile, state, store, symbol, buffer)
 }

@@ -8,8 +8,7 @@ use lib.ListN.{length, replicate}
 use borrow.Author.Tests.{not-true}
 use Rattle.counting.proofs.Bools.{by_test}
 use Rattle.rules.specs.declared.Device.{Device}
-use Rattle.rules.specs.declared.Finding.TheVariants.{Fine}
-use Rattle.rules.specs.declared.Verdict.TheVariants.{Accepted}
+use Rattle.std.specs.Prelude.{Ok, is_ok}
 use Rattle.rules.specs.Device.{khz50}
 use Rattle.rules.specs.Plan.{plan_of}
 use Rattle.rules.specs.Grounds.{grounds1to15, verdict}
@@ -19,7 +18,7 @@ use Rattle.rules.specs.Receive.{Receiver, Arrival, hear_step}
 use Rattle.bytecells.specs.Octets.{cells_of, odd}
 use Rattle.bytecells.specs.ByteSteps.{sent_bytes}
 use Rattle.frame.specs.Counted.{phase_of}
-use Rattle.runs.specs.Run.{Entries, cell_entries, input, sent, emitter_after, heard, receiver_after, is_sent, is_received, Fresh, FreshReceiver}
+use Rattle.runs.specs.Run.{Entries, cell_entries, input, sent, emitter_after, heard, receiver_after, Fresh, FreshReceiver}
 use Rattle.runs.specs.Follow.{Flushed, Follows}
 use Rattle.runs.specs.Demand3.{Returned, Demand3}
 use Rattle.runs.specs.Claims.{InputAt, PlanClaims}
@@ -43,7 +42,7 @@ module _ (d : Device) (s : List ℕ) (F : Frame) where
     back = rw (outcome_same d s v arrivals, heard_same d s v arrivals) r.back;
     next = rw (heard_same d s v arrivals) (λ w listed under a given wy wb h is room.
         hears_whole d s (receiver_after (byte_entries d s) v arrivals) a (hears.even_after d s v arrivals (hears.fresh_even d s j v f)) (not-true (odd a.symbol) wy) (not-true (odd a.buffer) wb)
-        (ap (λ (x : Receiver). is_received (hear_step d s x (read_arrival a)).answer) (hears.after_same d s v arrivals)
+        (ap (λ (x : Receiver). is_ok (hear_step d s x (read_arrival a)).answer) (hears.after_same d s v arrivals)
         ∙ unfold read_arrival in r.next w listed (under_cells d s w e steps under) (read_arrival a) given refl refl h is room));
   }
 
@@ -69,14 +68,14 @@ module _ (d : Device) (s : List ℕ) (F : Frame) where
 
   -- one more step of a run is accepted if the cell step is
   one_more : (e : Emitter) (steps : List Send) (g : Given) (w room : List ℕ) → odd_given (emitter_after (byte_entries d s) e steps) room g ≡ false
-      → is_sent (send_step d s (emitter_after (cell_entries d s) (read_emitter e) (cell_sends d s e steps)) (cell_send w room g)).answer ≡ true
-      → is_sent (send_given d s (emitter_after (byte_entries d s) e steps) w room g).answer ≡ true
+      → is_ok (send_step d s (emitter_after (cell_entries d s) (read_emitter e) (cell_sends d s e steps)) (cell_send w room g)).answer ≡ true
+      → is_ok (send_given d s (emitter_after (byte_entries d s) e steps) w room g).answer ≡ true
   one_more e steps g w room h t =
       sends_whole d s (emitter_after (byte_entries d s) e steps) w room g h
-      (ap (λ (x : Emitter). is_sent (send_step d s x (cell_send w room g)).answer) (after_same d s e steps) ∙ t)
+      (ap (λ (x : Emitter). is_ok (send_step d s x (cell_send w room g)).answer) (after_same d s e steps) ∙ t)
 
   -- a step that is accepted is the same under load 14 everywhere
-  fourteen : PlanClaims F (cell_entries d s) → (e : Emitter) (g : Given) (w room : List ℕ) → is_sent (send_given d s e w room g).answer ≡ true
+  fourteen : PlanClaims F (cell_entries d s) → (e : Emitter) (g : Given) (w room : List ℕ) → is_ok (send_given d s e w room g).answer ≡ true
       → send_given d s e (replicate F.width 14) room g ≡ send_given d s e w room g
   unfolding read_profile
   fourteen C e flush w room t = refl
@@ -117,7 +116,7 @@ module _ (d : Device) (s : List ℕ) (F : Frame) where
   }
 
 -- a plan that no ground refuses
-module _ (d : Device) (s : List ℕ) (fine : grounds1to15 d s ≡ Fine) where
+module _ (d : Device) (s : List ℕ) (fine : grounds1to15 d s ≡ Ok tt) where
   phase_in : (j : ℕ) (e : Emitter) → Fresh (byte_entries d s) j e → j < (frame_of d (plan_of s)).phases
   phase_in j e f =
       (fresh_in (frame_of d (plan_of s)) j (read_emitter e)
@@ -135,7 +134,7 @@ module _ (d : Device) (s : List ℕ) (fine : grounds1to15 d s ≡ Fine) where
       }
 
 -- every plan that the 50 kHz device accepts
-module _ (s : List ℕ) (n : ℕ) (e : verdict khz50 s ≡ Accepted n) where
+module _ (s : List ℕ) (n : ℕ) (e : verdict khz50 s ≡ Ok n) where
   pub accepted_demand3_bytes : Demand3 (frame_of khz50 (plan_of s)) (byte_entries khz50 s)
   accepted_demand3_bytes = bytes_demand3 khz50 s (no_ground khz50 s n (sym e)) (accepted_demand3 s n e) (accepted_claims s n e)
 

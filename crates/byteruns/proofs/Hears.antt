@@ -5,13 +5,13 @@ use mathlib.Core.Bool.{Bool, true, false, ◌||◌}
 use mathlib.Core.List.{List, map}
 use Rattle.counting.proofs.Bools.{by_test}
 use Rattle.rules.specs.declared.Device.{Device}
-use Rattle.rules.specs.declared.ListenAnswer.TheVariants as a-listen
-use Rattle.rules.specs.declared.ReceiveAnswer.TheVariants as a-receive
+use Rattle.rules.specs.Refusals.{refusal, refused_step, refused_by}
+use Rattle.std.specs.Prelude.{Ok, is_ok}
 use Rattle.rules.specs.Receive.{Receiver, Arrival, Receiving, hears, Listening, listens, listen_step, hear_step, receive_step}
 use Rattle.bytecells.specs.Octets.{cells_of, odd}
 use Rattle.bytecells.specs.ByteSteps.{listened_bytes, heard_bytes, listen_bytes, receive_bytes}
 use Rattle.bytecells.proofs.OctetLaws.{cells_bytes}
-use Rattle.runs.specs.Run.{cell_entries, is_received, receiver_left, outcome_of, receivings, heard, outcomes, receiver_after, is_listening, FreshReceiver}
+use Rattle.runs.specs.Run.{cell_entries, receiver_left, outcome_of, receivings, heard, outcomes, receiver_after, FreshReceiver}
 use Rattle.byteruns.specs.ByteEntries.{hear_bytes, byte_entries}
 use Rattle.byteruns.proofs.Kept.{map_twice, after_keeps, Reading, kept, kept_accepted, kept_after}
 use Rattle.byteruns.proofs.Starts as start
@@ -36,7 +36,7 @@ unfolding read_receiving
 read_heard r = λ i. hears r.answer (cells_bytes r.store i) (cells_bytes r.buffer i)
 
 module _ (d : Device) (s : List ℕ) where
-  hear_odd : (v : Receiver) (a : Arrival) → odd_arrival v a ≡ true → hear_bytes d s v a ≡ hears (a-receive.Refused 21 0 v.state) v.store a.buffer
+  hear_odd : (v : Receiver) (a : Arrival) → odd_arrival v a ≡ true → hear_bytes d s v a ≡ hears (refused_step (refusal 21 0) v.state) v.store a.buffer
   unfolding odd_arrival receive_bytes
   hear_odd v a h = rw h refl
 
@@ -44,8 +44,8 @@ module _ (d : Device) (s : List ℕ) where
   unfolding odd_arrival receive_bytes receive_step read_receiver read_arrival
   hear_even v a h = rw h refl
 
-  away : (v : Receiver) (a : Arrival) → odd_arrival v a ≡ true → (is_received (hear_bytes d s v a).answer ≡ false) × (receiver_left (hear_bytes d s v a) ≡ v)
-  away v a h = (ap (λ (r : Receiving). is_received r.answer) (hear_odd v a h), ap receiver_left (hear_odd v a h))
+  away : (v : Receiver) (a : Arrival) → odd_arrival v a ≡ true → (is_ok (hear_bytes d s v a).answer ≡ false) × (receiver_left (hear_bytes d s v a) ≡ v)
+  away v a h = (ap (λ (r : Receiving). is_ok r.answer) (hear_odd v a h), ap receiver_left (hear_odd v a h))
 
   same : (v : Receiver) (a : Arrival) → odd_arrival v a ≡ false → read_receiving (hear_bytes d s v a) ≡ hear_step d s (read_receiver v) (read_arrival a)
   same v a h = ap read_receiving (hear_even v a h) ∙ read_heard (hear_step d s (read_receiver v) (read_arrival a))
@@ -54,10 +54,10 @@ module _ (d : Device) (s : List ℕ) where
   unfolding read_receiving read_receiver
   reading = record {
     step = hear_bytes d s;
-    ok = λ r. is_received r.answer;
+    ok = λ r. is_ok r.answer;
     left = receiver_left;
     step' = hear_step d s;
-    ok' = λ r. is_received r.answer;
+    ok' = λ r. is_ok r.answer;
     left' = receiver_left;
     skip = odd_arrival;
     state = read_receiver;
@@ -106,19 +106,19 @@ module _ (d : Device) (s : List ℕ) where
 
   -- one more step of whole cells is accepted if the cell step is
   pub hears_whole : (v : Receiver) (a : Arrival) → odd v.store ≡ false → odd a.symbol ≡ false → odd a.buffer ≡ false
-      → is_received (hear_step d s (read_receiver v) (read_arrival a)).answer ≡ true → is_received (hear_bytes d s v a).answer ≡ true
+      → is_ok (hear_step d s (read_receiver v) (read_arrival a)).answer ≡ true → is_ok (hear_bytes d s v a).answer ≡ true
   unfolding odd_arrival
-  hears_whole v a hs hy hb t = ap (λ (r : Receiving). is_received r.answer) (hear_even v a (λ i. hs i || hy i || hb i)) ∙ t
+  hears_whole v a hs hy hb t = ap (λ (r : Receiving). is_ok r.answer) (hear_even v a (λ i. hs i || hy i || hb i)) ∙ t
 
 -- ---- a fresh start
 
 form : Form Listening
 form = record {
-  ok = λ r. is_listening r.answer;
+  ok = λ r. is_ok r.answer;
   store = λ r. r.store;
   read = λ r. listens r.answer (cells_of r.store);
   write = listened_bytes;
-  away = listens (a-listen.Refused 21 0);
+  away = listens (refused_by 21 0);
   read_write = λ r i. listens r.answer (cells_bytes r.store i);
   ok_write = λ r. refl;
   store_write = λ r. refl;
@@ -126,7 +126,7 @@ form = record {
 }
 
 module _ (d : Device) (s : List ℕ) (j : ℕ) where
-  pub listens_whole : (lent : List ℕ) → odd lent ≡ false → is_listening (listen_step d s j (cells_of lent)).answer ≡ true → is_listening (listen_bytes d s j lent).answer ≡ true
+  pub listens_whole : (lent : List ℕ) → odd lent ≡ false → is_ok (listen_step d s j (cells_of lent)).answer ≡ true → is_ok (listen_bytes d s j lent).answer ≡ true
   unfolding form listen_bytes
   listens_whole = start.starts_whole form (listen_step d s j)
 
@@ -135,9 +135,9 @@ module _ (d : Device) (s : List ℕ) (j : ℕ) where
     unfolding form read_receiver listen_bytes
     fresh_cells = record {
       lent = cells_of f.lent;
-      start = start.started_cells form (listen_step d s j) f.lent (listens (a-listen.Started v.state) v.store) f.start refl;
+      start = start.started_cells form (listen_step d s j) f.lent (listens (Ok v.state) v.store) f.start refl;
     }
 
     pub fresh_even : odd v.store ≡ false
     unfolding form listen_bytes
-    fresh_even = start.started_even form (listen_step d s j) f.lent (listens (a-listen.Started v.state) v.store) f.start refl
+    fresh_even = start.started_even form (listen_step d s j) f.lent (listens (Ok v.state) v.store) f.start refl

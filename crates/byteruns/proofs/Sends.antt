@@ -6,14 +6,14 @@ use mathlib.Core.List.{List, [], ◌∷◌, map}
 use native.Mathlib.Omega.{arith}
 use Rattle.counting.proofs.Bools.{by_test}
 use Rattle.rules.specs.declared.Device.{Device}
-use Rattle.rules.specs.declared.StartAnswer.TheVariants as a-start
-use Rattle.rules.specs.declared.SendAnswer.TheVariants as a-send
+use Rattle.rules.specs.Refusals.{refusal, refused_step, refused_by}
+use Rattle.std.specs.Prelude.{Ok, is_ok}
 use Rattle.rules.specs.Frame.{Given, flush, symbol}
 use Rattle.rules.specs.Steps.{Emitter, Send, Sending, leaves, Starting, starts, start_step, send_step, emit_step, flush_step}
 use Rattle.bytecells.specs.Octets.{cells_of, bytes_of, odd}
 use Rattle.bytecells.specs.ByteSteps.{started_bytes, sent_bytes, start_bytes, emit_bytes, flush_bytes}
 use Rattle.bytecells.proofs.OctetLaws.{cells_bytes, octets_whole, even_length}
-use Rattle.runs.specs.Run.{cell_entries, read_given, UnderProfile, is_sent, emitter_left, sendings, input, sent, emitter_after, is_started, Fresh}
+use Rattle.runs.specs.Run.{cell_entries, read_given, UnderProfile, emitter_left, sendings, input, sent, emitter_after, Fresh}
 use Rattle.byteruns.specs.ByteEntries.{send_given, send_bytes, byte_entries, SameBytes}
 use Rattle.byteruns.proofs.Starts as start
 use Rattle.byteruns.proofs.Starts.{even_bytes, Form}
@@ -58,7 +58,7 @@ unfolding read_sending
 read_sent r = λ i. leaves r.answer (cells_bytes r.store i) (cells_bytes r.symbol i)
 
 module _ (d : Device) (s : List ℕ) where
-  pub send_odd : (e : Emitter) (w room : List ℕ) (g : Given) → odd_given e room g ≡ true → send_given d s e w room g ≡ leaves (a-send.Refused 21 0 e.state) e.store room
+  pub send_odd : (e : Emitter) (w room : List ℕ) (g : Given) → odd_given e room g ≡ true → send_given d s e w room g ≡ leaves (refused_step (refusal 21 0) e.state) e.store room
   unfolding odd_given flush_bytes emit_bytes
   send_odd e w room flush h = rw h refl
   send_odd e w room (symbol ds) h = rw h refl
@@ -68,11 +68,11 @@ module _ (d : Device) (s : List ℕ) where
   send_even e w room flush h = rw h refl
   send_even e w room (symbol ds) h = rw h refl
 
-  away : (e : Emitter) (a : Send) → odd_send e a ≡ true → (is_sent (send_bytes d s e a).answer ≡ false) × (emitter_left (send_bytes d s e a) ≡ e)
+  away : (e : Emitter) (a : Send) → odd_send e a ≡ true → (is_ok (send_bytes d s e a).answer ≡ false) × (emitter_left (send_bytes d s e a) ≡ e)
   unfolding odd_send
   away e a h =
-      let q : send_bytes d s e a ≡ leaves (a-send.Refused 21 0 e.state) e.store a.room = send_odd e a.profile a.room a.given h in
-      (ap (λ (r : Sending). is_sent r.answer) q, ap emitter_left q)
+      let q : send_bytes d s e a ≡ leaves (refused_step (refusal 21 0) e.state) e.store a.room = send_odd e a.profile a.room a.given h in
+      (ap (λ (r : Sending). is_ok r.answer) q, ap emitter_left q)
 
   same : (e : Emitter) (a : Send) → odd_send e a ≡ false → read_sending (send_bytes d s e a) ≡ send_step d s (read_emitter e) (read_send a)
   unfolding odd_send read_send
@@ -82,10 +82,10 @@ module _ (d : Device) (s : List ℕ) where
   unfolding read_sending read_emitter
   reading = record {
     step = send_bytes d s;
-    ok = λ r. is_sent r.answer;
+    ok = λ r. is_ok r.answer;
     left = emitter_left;
     step' = send_step d s;
-    ok' = λ r. is_sent r.answer;
+    ok' = λ r. is_ok r.answer;
     left' = emitter_left;
     skip = odd_send;
     state = read_emitter;
@@ -148,17 +148,17 @@ module _ (d : Device) (s : List ℕ) where
 
   -- one more step of whole cells is accepted if the cell step is
   pub sends_whole : (e : Emitter) (w room : List ℕ) (g : Given) → odd_given e room g ≡ false
-      → is_sent (send_step d s (read_emitter e) (cell_send w room g)).answer ≡ true → is_sent (send_given d s e w room g).answer ≡ true
-  sends_whole e w room g h t = ap (λ (r : Sending). is_sent r.answer) (send_even e w room g h) ∙ t
+      → is_ok (send_step d s (read_emitter e) (cell_send w room g)).answer ≡ true → is_ok (send_given d s e w room g).answer ≡ true
+  sends_whole e w room g h t = ap (λ (r : Sending). is_ok r.answer) (send_even e w room g h) ∙ t
 
   -- and what is sent of whole cells, the cell step sends
   pub sent_whole : (e : Emitter) (w room : List ℕ) (g : Given) → odd_given e room g ≡ false
-      → is_sent (send_given d s e w room g).answer ≡ true → is_sent (send_step d s (read_emitter e) (cell_send w room g)).answer ≡ true
-  sent_whole e w room g h t = sym (ap (λ (r : Sending). is_sent r.answer) (send_even e w room g h)) ∙ t
+      → is_ok (send_given d s e w room g).answer ≡ true → is_ok (send_step d s (read_emitter e) (cell_send w room g)).answer ≡ true
+  sent_whole e w room g h t = sym (ap (λ (r : Sending). is_ok r.answer) (send_even e w room g h)) ∙ t
 
   -- ---- the bytes that are left
 
-  sent_bytes_lem : (e : Emitter) (a : Send) → is_sent (send_bytes d s e a).answer ≡ true → bytes_of (cells_of (send_bytes d s e a).symbol) ≡ (send_bytes d s e a).symbol
+  sent_bytes_lem : (e : Emitter) (a : Send) → is_ok (send_bytes d s e a).answer ≡ true → bytes_of (cells_of (send_bytes d s e a).symbol) ≡ (send_bytes d s e a).symbol
   unfolding odd_send
   sent_bytes_lem e a t =
       by_test (odd_send e a)
@@ -171,17 +171,17 @@ module _ (d : Device) (s : List ℕ) where
   unfolding sent
   left_bytes e steps =
       map_twice (λ x. cells_of x.1.symbol) bytes_of (sendings (byte_entries d s) e steps)
-      ∙ accepted_same (send_bytes d s) (λ r. is_sent r.answer) emitter_left (λ r. bytes_of (cells_of r.symbol)) (λ r. r.symbol) sent_bytes_lem e steps
+      ∙ accepted_same (send_bytes d s) (λ r. is_ok r.answer) emitter_left (λ r. bytes_of (cells_of r.symbol)) (λ r. r.symbol) sent_bytes_lem e steps
 
 -- ---- a fresh start
 
 form : Form Starting
 form = record {
-  ok = λ r. is_started r.answer;
+  ok = λ r. is_ok r.answer;
   store = λ r. r.store;
   read = λ r. starts r.answer (cells_of r.store);
   write = started_bytes;
-  away = starts (a-start.Refused 21 0);
+  away = starts (refused_by 21 0);
   read_write = λ r i. starts r.answer (cells_bytes r.store i);
   ok_write = λ r. refl;
   store_write = λ r. refl;
@@ -189,7 +189,7 @@ form = record {
 }
 
 module _ (d : Device) (s : List ℕ) (j : ℕ) where
-  pub starts_whole : (lent : List ℕ) → odd lent ≡ false → is_started (start_step d s j (cells_of lent)).answer ≡ true → is_started (start_bytes d s j lent).answer ≡ true
+  pub starts_whole : (lent : List ℕ) → odd lent ≡ false → is_ok (start_step d s j (cells_of lent)).answer ≡ true → is_ok (start_bytes d s j lent).answer ≡ true
   unfolding form start_bytes
   starts_whole = start.starts_whole form (start_step d s j)
 
@@ -198,9 +198,9 @@ module _ (d : Device) (s : List ℕ) (j : ℕ) where
     unfolding form read_emitter start_bytes
     fresh_cells = record {
       lent = cells_of f.lent;
-      start = start.started_cells form (start_step d s j) f.lent (starts (a-start.Started e.state) e.store) f.start refl;
+      start = start.started_cells form (start_step d s j) f.lent (starts (Ok e.state) e.store) f.start refl;
     }
 
     pub fresh_even : odd e.store ≡ false
     unfolding form start_bytes
-    fresh_even = start.started_even form (start_step d s j) f.lent (starts (a-start.Started e.state) e.store) f.start refl
+    fresh_even = start.started_even form (start_step d s j) f.lent (starts (Ok e.state) e.store) f.start refl

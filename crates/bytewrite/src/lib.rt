@@ -24,11 +24,9 @@ pub fn write_cells(b: &mut [u8], at: usize, x: &[u16])
     requires { 2 * (at + length x.now) ≤ length b.old }
     ensures { b.new ≡ sets b.old (2 * at) (bytes_of x.now) }
 {
-    let mut i = 0;
-    while i < x.len() {
-        b[2 * (at + i)] = high_byte(x[i]);
-        b[2 * (at + i) + 1] = low_byte(x[i]);
-        i += 1;
+    for (i, cell) in x.iter().enumerate() {
+        b[2 * (at + i)] = high_byte(*cell);
+        b[2 * (at + i) + 1] = low_byte(*cell);
     }
 }
 
@@ -37,10 +35,8 @@ pub fn write_same(b: &mut [u8], n: usize, x: u16)
     requires { 2 * n ≤ length b.old }
     ensures { b.new ≡ sets b.old 0 (bytes_of (replicate n x)) }
 {
-    let mut i = 0;
-    while i < n {
+    for i in 0..n {
         b[2 * i] = high_byte(x);
         b[2 * i + 1] = low_byte(x);
-        i += 1;
     }
 }

@@ -6,17 +6,9 @@ use mathlib.Core.List.{List}
 use lib.Dec.{eqb}
 use Rattle.counting.specs.Search.{pick}
 use Rattle.rules.specs.declared.Device.{Device}
-use Rattle.rules.specs.declared.StartAnswer.{StartAnswer}
-use Rattle.rules.specs.declared.StartAnswer.TheVariants as a-start
-use Rattle.rules.specs.declared.ListenAnswer.{ListenAnswer}
-use Rattle.rules.specs.declared.ListenAnswer.TheVariants as a-listen
-use Rattle.rules.specs.declared.SendAnswer.{SendAnswer}
-use Rattle.rules.specs.declared.SendAnswer.TheVariants as a-send
-use Rattle.rules.specs.declared.ReceiveAnswer.{ReceiveAnswer}
-use Rattle.rules.specs.declared.ReceiveAnswer.TheVariants as a-receive
-use Rattle.rules.specs.declared.CountAnswer.{CountAnswer}
-use Rattle.rules.specs.declared.CountAnswer.TheVariants as a-count
-use Rattle.rules.specs.declared.Verdict.TheVariants.{Accepted}
+use Rattle.rules.specs.declared.Heard.TheVariants.{Warming, Data}
+use Rattle.rules.specs.Refusals.{CountAnswer, StartAnswer, ListenAnswer, SendAnswer, ReceiveAnswer}
+use Rattle.std.specs.Prelude.{Ok, Err, is_ok}
 use Rattle.rules.specs.Device.{khz50}
 use Rattle.rules.specs.Plan.{plan_of}
 use Rattle.rules.specs.Grounds.{verdict}
@@ -31,39 +23,38 @@ use Rattle.bytecells.specs.ByteSteps.{start_bytes, listen_bytes, emit_bytes, flu
 use Rattle.answerbytes.specs.declared.Told.{Told}
 use Rattle.answerbytes.specs.Layout.{short}
 use Rattle.answers.specs.Answer.{told_count, told_start, told_listen, told_send, told_receive}
-use Rattle.runs.specs.Run.{is_started, is_listening, is_sent, is_received}
 use Rattle.runs.specs.Demand3.{Demand3}
 use Rattle.runs.specs.Claims.{PlanClaims}
 use Rattle.byteruns.specs.ByteEntries.{send_given, byte_entries}
 use Rattle.byteruns.proofs.Claims.{accepted_demand3_bytes, accepted_claims_bytes}
 use Rattle.headend.specs.Calls.{says_store, says_step, says_fill, start_told, listen_told, send_told, receive_told, fill_told, start_call, listen_call, emit_call, flush_call, receive_call, fill_call, unfill_call}
-use Rattle.callruns.specs.Host.{is_count, is_warming}
+use Rattle.callruns.specs.Host.{is_warming}
 use Rattle.callruns.specs.CallEntries.{start_of, listen_of, send_of, receive_of, count_of, start_said, listen_said, send_said, receive_said, fill_said, give_call, hear_call, call_entries, AnyBuffer}
 use Rattle.callruns.proofs.Zeros.{start_bytes_lem, listen_bytes_lem, emit_bytes_lem, flush_bytes_lem, receive_bytes_lem, fill_bytes_lem, unfill_bytes_lem}
 use Rattle.callruns.proofs.Warming.{long, told_back, Tells, bytes_tell}
 
 -- ---- an answer laid out and taken again
 
-start_back : (r : StartAnswer) → eqb (told_start r).number 0 ≡ is_started r → start_of (told_start r) ≡ r
-start_back (a-start.Started e) h = refl
-start_back (a-start.Refused n place) h = ap (λ (b : Bool). pick b (a-start.Started (record { phase = 0 })) (a-start.Refused n place)) h
+start_back : (r : StartAnswer) → eqb (told_start r).number 0 ≡ is_ok r → start_of (told_start r) ≡ r
+start_back (Ok e) h = refl
+start_back (Err r) h = ap (λ (b : Bool). pick b (Ok (record { phase = 0 })) (Err r)) h
 
-listen_back : (r : ListenAnswer) → eqb (told_listen r).number 0 ≡ is_listening r → listen_of (told_listen r) ≡ r
-listen_back (a-listen.Started v) h = refl
-listen_back (a-listen.Refused n place) h = ap (λ (b : Bool). pick b (a-listen.Started (record { phase = 0; heard = 0 })) (a-listen.Refused n place)) h
+listen_back : (r : ListenAnswer) → eqb (told_listen r).number 0 ≡ is_ok r → listen_of (told_listen r) ≡ r
+listen_back (Ok v) h = refl
+listen_back (Err r) h = ap (λ (b : Bool). pick b (Ok (record { phase = 0; heard = 0 })) (Err r)) h
 
-send_back : (r : SendAnswer) → eqb (told_send r).number 0 ≡ is_sent r → send_of (told_send r) ≡ r
-send_back (a-send.Sent e) h = refl
-send_back (a-send.Refused n place e) h = ap (λ (b : Bool). pick b (a-send.Sent e) (a-send.Refused n place e)) h
+send_back : (r : SendAnswer) → eqb (told_send r).number 0 ≡ is_ok r → send_of (told_send r) ≡ r
+send_back (Ok e) h = refl
+send_back (Err r) h = ap (λ (b : Bool). pick b (Ok r.state) (Err r)) h
 
-receive_back : (r : ReceiveAnswer) → eqb (told_receive r).number 0 ≡ is_received r → (is_received r ≡ true → eqb (told_receive r).value 0 ≡ is_warming r) → receive_of (told_receive r) ≡ r
-receive_back (a-receive.Warming v) h w = refl
-receive_back (a-receive.Data v n) h w = ap (λ (b : Bool). pick b (a-receive.Warming v) (a-receive.Data v n)) (w refl)
-receive_back (a-receive.Refused n place v) h w = ap (λ (b : Bool). pick b (pick true (a-receive.Warming v) (a-receive.Data v 0)) (a-receive.Refused n place v)) h
+receive_back : (r : ReceiveAnswer) → eqb (told_receive r).number 0 ≡ is_ok r → (is_ok r ≡ true → eqb (told_receive r).value 0 ≡ is_warming r) → receive_of (told_receive r) ≡ r
+receive_back (Ok (Warming v)) h w = refl
+receive_back (Ok (Data v n)) h w = ap (λ (b : Bool). pick b (Ok (Warming v)) (Ok (Data v n))) (w refl)
+receive_back (Err r) h w = ap (λ (b : Bool). pick b (pick true (Ok (Warming r.state)) (Ok (Data r.state 0))) (Err r)) h
 
-pub count_back : (r : CountAnswer) → eqb (told_count r).number 0 ≡ is_count r → count_of (told_count r) ≡ r
-count_back (a-count.Count n) h = refl
-count_back (a-count.Refused n place) h = ap (λ (b : Bool). pick b (a-count.Count 0) (a-count.Refused n place)) h
+pub count_back : (r : CountAnswer) → eqb (told_count r).number 0 ≡ is_ok r → count_of (told_count r) ≡ r
+count_back (Ok n) h = refl
+count_back (Err r) h = ap (λ (b : Bool). pick b (Ok 0) (Err r)) h
 
 -- ---- the calls
 
@@ -84,7 +75,7 @@ module _ (d : Device) (s : List ℕ) (roomy : Roomy d) (a : List ℕ) (room_for 
       ∙ ap (λ (t : Told). listens (listen_of t) r.store) (told_back a (told_listen r.answer) (long a room_for))
       ∙ ap (λ (x : ListenAnswer). listens x r.store) (listen_back r.answer (listen_bytes_lem d s j store))
 
-  send_told_lem : (r : Sending) (st y : List ℕ) → eqb (told_send r.answer).number 0 ≡ is_sent r.answer → send_said (pick (short a) (says_step 21 st y a) (send_told r a)) ≡ r
+  send_told_lem : (r : Sending) (st y : List ℕ) → eqb (told_send r.answer).number 0 ≡ is_ok r.answer → send_said (pick (short a) (says_step 21 st y a) (send_told r a)) ≡ r
   send_told_lem r st y h =
       ap (λ (b : Bool). send_said (pick b (says_step 21 st y a) (send_told r a))) room_for
       ∙ ap (λ (t : Told). leaves (send_of t) r.store r.symbol) (told_back a (told_send r.answer) (long a room_for))
@@ -104,7 +95,7 @@ module _ (d : Device) (s : List ℕ) (roomy : Roomy d) (a : List ℕ) (room_for 
       ∙ ap (λ (z : ReceiveAnswer). hears z r.store r.buffer)
       (receive_back r.answer (receive_bytes_lem d s x.profile v.state v.store x.symbol x.buffer) (bytes_tell d s roomy x.profile v.state v.store x.symbol x.buffer))
 
-  fill_told_lem : (r : Filling) (l : List ℕ) → eqb (told_count r.answer).number 0 ≡ is_count r.answer → fill_said (pick (short a) (says_fill 21 l a) (fill_told r a)) ≡ r
+  fill_told_lem : (r : Filling) (l : List ℕ) → eqb (told_count r.answer).number 0 ≡ is_ok r.answer → fill_said (pick (short a) (says_fill 21 l a) (fill_told r a)) ≡ r
   fill_told_lem r l h =
       ap (λ (b : Bool). fill_said (pick b (says_fill 21 l a) (fill_told r a))) room_for
       ∙ ap (λ (t : Told). fills (count_of t) r.left) (told_back a (told_count r.answer) (long a room_for))
@@ -135,7 +126,7 @@ pub any_buffer : (d : Device) (s : List ℕ) → Roomy d → AnyBuffer d s
 any_buffer d s roomy a a' room_for room-for' = calls_are d s roomy a room_for ∙ sym (calls_are d s roomy a' room-for')
 
 -- every plan that the 50 kHz device accepts
-module _ (s : List ℕ) (n : ℕ) (e : verdict khz50 s ≡ Accepted n) (a : List ℕ) (room_for : short a ≡ false) where
+module _ (s : List ℕ) (n : ℕ) (e : verdict khz50 s ≡ Ok n) (a : List ℕ) (room_for : short a ≡ false) where
   pub accepted_demand3_calls : Demand3 (frame_of khz50 (plan_of s)) (call_entries khz50 s a)
   accepted_demand3_calls = subst (Demand3 (frame_of khz50 (plan_of s))) (sym (calls_are khz50 s khz50_roomy a room_for)) (accepted_demand3_bytes s n e)
 

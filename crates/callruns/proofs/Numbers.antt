@@ -2,7 +2,6 @@
 use Prim.Native.Nat.{ℕ, ◌+◌, ◌-◌, ◌*◌, ◌/◌}
 use mathlib.Core.Path.{◌≡◌, refl, sym, ap, ◌∙◌}
 use mathlib.Core.Bool.{Bool, true, false, not, ◌&&◌, ◌||◌}
-use mathlib.Core.Option.{Option, none, some}
 use mathlib.Core.List.{List, [], ◌∷◌}
 use lib.Dec.{leb, ltb, eqb}
 use lib.ListN.{length, get_or}
@@ -10,16 +9,10 @@ use borrow.Author.Tests.{not-true}
 use Rattle.counting.specs.Search.{bit, when, lowest}
 use Rattle.counting.proofs.Bools.{by_test}
 use Rattle.rules.specs.declared.Device.{Device}
-use Rattle.rules.specs.declared.Finding.{Finding}
-use Rattle.rules.specs.declared.Finding.TheVariants.{Fine, Ground}
-use Rattle.rules.specs.declared.Verdict.{Verdict}
-use Rattle.rules.specs.declared.Verdict.TheVariants.{Refused}
-use Rattle.rules.specs.declared.RoleAnswer.{RoleAnswer}
-use Rattle.rules.specs.declared.RoleAnswer.TheVariants as a-role
-use Rattle.rules.specs.declared.CountAnswer.{CountAnswer}
-use Rattle.rules.specs.declared.CountAnswer.TheVariants as a-count
-use Rattle.rules.specs.declared.StartAnswer.TheVariants as a-start
-use Rattle.rules.specs.declared.ListenAnswer.TheVariants as a-listen
+use Rattle.rules.specs.declared.Refusal.{Refusal}
+use Rattle.rules.specs.declared.Reason.TheVariants as a-reason
+use Rattle.rules.specs.Refusals.{Finding, Verdict, RoleAnswer, CountAnswer, WhyAnswer, refused_by}
+use Rattle.std.specs.Prelude.{Ok, Err, Option, Some, None, is_ok}
 use Rattle.rules.specs.Device.{phases}
 use Rattle.rules.specs.Plan.{Entry, Plan, plan_of, chain, is_pilot}
 use Rattle.rules.specs.Grounds.{◌else◌, ground?, bad_length, bad_form, bad_next, pilots_max, bad_numbers, outside, around_plc, pilot_clash, narrow_band, no_wide_band, much_excluded, much_in_band, full_window, many_ranked, record_grounds, chain_grounds, grounds1to5, grounds6to15, grounds1to15, answer, verdict}
@@ -35,50 +28,50 @@ use Rattle.rules.specs.Receive as receive
 use Rattle.rules.specs.Receive.{Receiver, Arrival, Receiving, Listening, listens, turned_away, short_buffer, wrong_cell, receiver_ground16, receiver_ground17, ground20, receive_grounds, received, frame_receive, frame_listen, hear_step, listen_step}
 use Rattle.copies.specs.Copy.{copy_with}
 use Rattle.exclusion.specs.Trial.{trial_verdict, too_large, trial_of_numbers}
-use Rattle.rules.specs.declared.WhyAnswer.{WhyAnswer}
-use Rattle.rules.specs.declared.WhyAnswer.TheVariants as a-why
 use Rattle.reasons.specs.Reasons.{why_answer, named}
 use Rattle.reasons.proofs.Answers.{same_role}
-use Rattle.answers.specs.Answer.{told_verdict, told_role, told_why, told_count, told_start, told_listen, told_send, told_receive}
-use Rattle.runs.specs.Run.{is_started, is_listening, is_sent, is_received}
+use Rattle.answers.specs.Answer.{told_role, told_why, told_count, told_start, told_listen, told_send, told_receive}
 use Rattle.pilots.specs.declared.PilotAnswer.{PilotAnswer}
 use Rattle.pilots.specs.Pilots.{continuous_pilots, listing, no_listing, pilots_answer}
 use Rattle.lamprecord.specs.Record.{lamp_cap, bad_record}
 use Rattle.lampgrounds.specs.Steps.{Hearing, leaves_record, no_lights, lamp_grounds, lamp_finding, lamp_hears, lamp_step}
-use Rattle.callruns.specs.Host.{is_accepted, is_role, is_reasoned, is_count}
 
 -- why a subcarrier has its role is refused as the role is
 same_number : (w : WhyAnswer) → (told_why w).number ≡ (told_role (named w)).number
-same_number (a-why.ExcludedBy i) = refl
-same_number (a-why.PlcBy i) = refl
-same_number (a-why.PilotBelow x) = refl
-same_number (a-why.PilotAbove x) = refl
-same_number (a-why.PilotBy i) = refl
-same_number (a-why.ScatteredOnly q) = refl
-same_number (a-why.DataBut q) = refl
-same_number (a-why.Refused n place) = refl
+same_number (Ok (a-reason.ExcludedBy i)) = refl
+same_number (Ok (a-reason.PlcBy i)) = refl
+same_number (Ok (a-reason.PilotBelow x)) = refl
+same_number (Ok (a-reason.PilotAbove x)) = refl
+same_number (Ok (a-reason.PilotBy i)) = refl
+same_number (Ok (a-reason.ScatteredOnly q)) = refl
+same_number (Ok (a-reason.DataBut q)) = refl
+same_number (Err r) = refl
+
+same_ok : (w : WhyAnswer) → is_ok (named w) ≡ is_ok w
+same_ok (Ok r) = refl
+same_ok (Err r) = refl
 
 -- ---- the number of a ground
 
 -- a ground that is found has a number other than 0
 numbered : Finding → Bool
-numbered Fine = true
-numbered (Ground n place) = not (eqb n 0)
+numbered (Ok tt) = true
+numbered (Err r) = not (eqb r.number 0)
 
 more : (n : ℕ) (o : Option ℕ) (g : Finding) → not (eqb n 0) ≡ true → numbered g ≡ true → numbered (ground? n o else g) ≡ true
 unfolding numbered
-more n none g h hg = hg
-more n (some place) g h hg = h
+more n None g h hg = hg
+more n (Some place) g h hg = h
 
 last : (n : ℕ) (o : Option ℕ) → not (eqb n 0) ≡ true → numbered (ground? n o) ≡ true
 unfolding numbered
-last n none h = refl
-last n (some place) h = h
+last n None h = refl
+last n (Some place) h = h
 
 both : (f g : Finding) → numbered f ≡ true → numbered g ≡ true → numbered (f else g) ≡ true
 unfolding numbered
-both Fine g hf hg = hg
-both (Ground n place) g hf hg = hf
+both (Ok tt) g hf hg = hg
+both (Err r) g hf hg = hf
 
 module _ (d : Device) where
   record_numbered : (r pilots : ℕ) (e : Entry) → numbered (record_grounds d r pilots e) ≡ true
@@ -173,124 +166,124 @@ module _ (F : Frame) where
 -- ---- the number of an answer
 
 -- what is made where nothing is found, and what else
-by_ground : {T : Type 0} (number : T → ℕ) (ok : T → Bool) (f : Finding) (made : T) (away : ℕ → ℕ → T) → numbered f ≡ true → eqb (number made) 0 ≡ ok made
-    → ((n place : ℕ) → (number (away n place) ≡ n) × (ok (away n place) ≡ false))
-    → eqb (number (elim f [ Fine ↦ made | Ground n place ↦ away n place ])) 0 ≡ ok (elim f [ Fine ↦ made | Ground n place ↦ away n place ])
+by_ground : {T : Type 0} (number : T → ℕ) (ok : T → Bool) (f : Finding) (made : T) (away : Refusal → T) → numbered f ≡ true → eqb (number made) 0 ≡ ok made
+    → ((r : Refusal) → (number (away r) ≡ r.number) × (ok (away r) ≡ false))
+    → eqb (number (elim f [ Ok _ ↦ made | Err r ↦ away r ])) 0 ≡ ok (elim f [ Ok _ ↦ made | Err r ↦ away r ])
 unfolding numbered
-by_ground number ok Fine made away h hm ha = hm
-by_ground number ok (Ground n place) made away h hm ha = ap (λ (x : ℕ). eqb x 0) (ha n place).0 ∙ not-true (eqb n 0) h ∙ sym (ha n place).1
+by_ground number ok (Ok tt) made away h hm ha = hm
+by_ground number ok (Err r) made away h hm ha = ap (λ (x : ℕ). eqb x 0) (ha r).0 ∙ not-true (eqb r.number 0) h ∙ sym (ha r).1
 
 -- a verdict that a finding makes
-answer_zero : (f : Finding) (m : ℕ) → numbered f ≡ true → eqb (told_verdict (answer f m)).number 0 ≡ is_accepted (answer f m)
+answer_zero : (f : Finding) (m : ℕ) → numbered f ≡ true → eqb (told_count (answer f m)).number 0 ≡ is_ok (answer f m)
 unfolding numbered
-answer_zero Fine m h = refl
-answer_zero (Ground n place) m h = not-true (eqb n 0) h
+answer_zero (Ok tt) m h = refl
+answer_zero (Err r) m h = not-true (eqb r.number 0) h
 
-pub verdict_zero : (d : Device) (s : List ℕ) → eqb (told_verdict (verdict d s)).number 0 ≡ is_accepted (verdict d s)
+pub verdict_zero : (d : Device) (s : List ℕ) → eqb (told_count (verdict d s)).number 0 ≡ is_ok (verdict d s)
 unfolding verdict
 verdict_zero d s = answer_zero (grounds1to15 d s) (ranked_count d (plan_of s)) (plan_numbered d s)
 
 module _ (d : Device) (s : List ℕ) where
-  pub trial_zero : (first last : ℕ) → eqb (told_verdict (trial_of_numbers d s first last)).number 0 ≡ is_accepted (trial_of_numbers d s first last)
+  pub trial_zero : (first last : ℕ) → eqb (told_count (trial_of_numbers d s first last)).number 0 ≡ is_ok (trial_of_numbers d s first last)
   unfolding trial_of_numbers trial_verdict
   trial_zero a b =
       by_test (too_large a b)
-      (λ t. rw t (answer_zero (grounds1to5 d s else ground? 1 (when (ltb 4096 (length s + 8)) 0) else Ground 4 (length s / 8)) 0
-      (both (grounds1to5 d s) _ (early_numbered d s) (more 1 (when (ltb 4096 (length s + 8)) 0) (Ground 4 (length s / 8)) refl (unfold numbered in refl)))))
-      (λ t. rw t (by_ground (λ (v : Verdict). (told_verdict v).number) is_accepted (grounds1to5 d s) (verdict d (copy_with s a b)) Refused (early_numbered d s) (verdict_zero d (copy_with s a b)) (λ n place. (refl, refl))))
+      (λ t. rw t (answer_zero (grounds1to5 d s else ground? 1 (when (ltb 4096 (length s + 8)) 0) else refused_by 4 (length s / 8)) 0
+      (both (grounds1to5 d s) _ (early_numbered d s) (more 1 (when (ltb 4096 (length s + 8)) 0) (refused_by 4 (length s / 8)) refl (unfold numbered in refl)))))
+      (λ t. rw t (by_ground (λ (v : Verdict). (told_count v).number) is_ok (grounds1to5 d s) (verdict d (copy_with s a b)) (λ r. Err r) (early_numbered d s) (verdict_zero d (copy_with s a b)) (λ r. (refl, refl))))
 
-  pub role_zero : (k j : ℕ) → eqb (told_role (role_answer d s k j)).number 0 ≡ is_role (role_answer d s k j)
+  pub role_zero : (k j : ℕ) → eqb (told_role (role_answer d s k j)).number 0 ≡ is_ok (role_answer d s k j)
   unfolding role_answer role_in
   role_zero k j =
-      by_ground (λ (r : RoleAnswer). (told_role r).number) is_role (grounds1to15 d s) (role_in d s k j) (λ n place. a-role.Refused n place) (plan_numbered d s)
+      by_ground (λ (r : RoleAnswer). (told_role r).number) is_ok (grounds1to15 d s) (role_in d s k j) (λ r. Err r) (plan_numbered d s)
       (go (leb d.subcarriers k || leb phases j))
-      (λ n place. (refl, refl))
+      (λ r. (refl, refl))
     where
       made : Bool → RoleAnswer
-      made b = elim b [ true ↦ a-role.Refused 16 0 | false ↦ a-role.Is (role d (plan_of s) j k) ]
+      made b = elim b [ true ↦ refused_by 16 0 | false ↦ Ok (role d (plan_of s) j k) ]
 
-      go : (b : Bool) → eqb (told_role (made b)).number 0 ≡ is_role (made b)
+      go : (b : Bool) → eqb (told_role (made b)).number 0 ≡ is_ok (made b)
       go true = refl
       go false = refl
 
-  pub why_zero : (k j : ℕ) → eqb (told_why (why_answer d s k j)).number 0 ≡ is_reasoned (why_answer d s k j)
+  pub why_zero : (k j : ℕ) → eqb (told_why (why_answer d s k j)).number 0 ≡ is_ok (why_answer d s k j)
   why_zero k j =
       ap (λ (n : ℕ). eqb n 0) (same_number (why_answer d s k j) ∙ ap (λ (r : RoleAnswer). (told_role r).number) (same_role d s k j))
-      ∙ role_zero k j ∙ sym (ap is_role (same_role d s k j))
+      ∙ role_zero k j ∙ sym (ap is_ok (same_role d s k j)) ∙ same_ok (why_answer d s k j)
 
-  pub count_zero : (j : ℕ) → eqb (told_count (data_count_answer d s j)).number 0 ≡ is_count (data_count_answer d s j)
+  pub count_zero : (j : ℕ) → eqb (told_count (data_count_answer d s j)).number 0 ≡ is_ok (data_count_answer d s j)
   unfolding data_count_answer frame_count
   count_zero j =
       let F : Frame = frame_of d (plan_of s) in
-      by_ground (λ (r : CountAnswer). (told_count r).number) is_count (grounds1to15 d s) (frame_count F j) (λ n place. a-count.Refused n place) (plan_numbered d s)
-      (by_ground (λ (r : CountAnswer). (told_count r).number) is_count (ground16 F j) (a-count.Count (data_count F j)) (λ n place. a-count.Refused n place) (phase_numbered F j) refl (λ n place. (refl, refl)))
-      (λ n place. (refl, refl))
+      by_ground (λ (r : CountAnswer). (told_count r).number) is_ok (grounds1to15 d s) (frame_count F j) (λ r. Err r) (plan_numbered d s)
+      (by_ground (λ (r : CountAnswer). (told_count r).number) is_ok (ground16 F j) (Ok (data_count F j)) (λ r. Err r) (phase_numbered F j) refl (λ r. (refl, refl)))
+      (λ r. (refl, refl))
 
-  pub start_zero : (j : ℕ) (st : List ℕ) → eqb (told_start (start_step d s j st).answer).number 0 ≡ is_started (start_step d s j st).answer
+  pub start_zero : (j : ℕ) (st : List ℕ) → eqb (told_start (start_step d s j st).answer).number 0 ≡ is_ok (start_step d s j st).answer
   unfolding start_step frame_start
   start_zero j st =
       let F : Frame = frame_of d (plan_of s) in
-      let away : ℕ → ℕ → Starting = λ n place. starts (a-start.Refused n place) st in
-      by_ground (λ (r : Starting). (told_start r.answer).number) (λ r. is_started r.answer) (grounds1to15 d s) (frame_start F j st) away (plan_numbered d s)
-      (by_ground (λ (r : Starting). (told_start r.answer).number) (λ r. is_started r.answer) (start_grounds F (emitter_places F) j st)
-      (starts (a-start.Started (record { phase = j })) (fresh_store F j st)) away (start_numbered F (emitter_places F) j st) refl (λ n place. (refl, refl)))
-      (λ n place. (refl, refl))
+      let away : Refusal → Starting = λ r. starts (Err r) st in
+      by_ground (λ (r : Starting). (told_start r.answer).number) (λ r. is_ok r.answer) (grounds1to15 d s) (frame_start F j st) away (plan_numbered d s)
+      (by_ground (λ (r : Starting). (told_start r.answer).number) (λ r. is_ok r.answer) (start_grounds F (emitter_places F) j st)
+      (starts (Ok (record { phase = j })) (fresh_store F j st)) away (start_numbered F (emitter_places F) j st) refl (λ r. (refl, refl)))
+      (λ r. (refl, refl))
 
-  pub listen_zero : (j : ℕ) (st : List ℕ) → eqb (told_listen (listen_step d s j st).answer).number 0 ≡ is_listening (listen_step d s j st).answer
+  pub listen_zero : (j : ℕ) (st : List ℕ) → eqb (told_listen (listen_step d s j st).answer).number 0 ≡ is_ok (listen_step d s j st).answer
   unfolding listen_step frame_listen
   listen_zero j st =
       let F : Frame = frame_of d (plan_of s) in
-      let away : ℕ → ℕ → Listening = λ n place. listens (a-listen.Refused n place) st in
-      by_ground (λ (r : Listening). (told_listen r.answer).number) (λ r. is_listening r.answer) (grounds1to15 d s) (frame_listen F j st) away (plan_numbered d s)
-      (by_ground (λ (r : Listening). (told_listen r.answer).number) (λ r. is_listening r.answer) (start_grounds F (receiver_places F) j st)
-      (listens (a-listen.Started (record { phase = j; heard = 0 })) (filler_store F st)) away (start_numbered F (receiver_places F) j st) refl (λ n place. (refl, refl)))
-      (λ n place. (refl, refl))
+      let away : Refusal → Listening = λ r. listens (Err r) st in
+      by_ground (λ (r : Listening). (told_listen r.answer).number) (λ r. is_ok r.answer) (grounds1to15 d s) (frame_listen F j st) away (plan_numbered d s)
+      (by_ground (λ (r : Listening). (told_listen r.answer).number) (λ r. is_ok r.answer) (start_grounds F (receiver_places F) j st)
+      (listens (Ok (record { phase = j; heard = 0 })) (filler_store F st)) away (start_numbered F (receiver_places F) j st) refl (λ r. (refl, refl)))
+      (λ r. (refl, refl))
 
-  pub send_zero : (e : Emitter) (a : Send) → eqb (told_send (send_step d s e a).answer).number 0 ≡ is_sent (send_step d s e a).answer
+  pub send_zero : (e : Emitter) (a : Send) → eqb (told_send (send_step d s e a).answer).number 0 ≡ is_ok (send_step d s e a).answer
   unfolding send_step frame_step accepted
   send_zero e a =
       let F : Frame = frame_of d (plan_of s) in
-      by_ground (λ (r : Sending). (told_send r.answer).number) (λ r. is_sent r.answer) (grounds1to15 d s) (frame_step F e a) (refused e a) (plan_numbered d s)
-      (by_ground (λ (r : Sending). (told_send r.answer).number) (λ r. is_sent r.answer) (send_grounds F e a) (accepted F e a.given) (refused e a) (send_numbered F e a) refl (λ n place. (refl, refl)))
-      (λ n place. (refl, refl))
+      by_ground (λ (r : Sending). (told_send r.answer).number) (λ r. is_ok r.answer) (grounds1to15 d s) (frame_step F e a) (refused e a) (plan_numbered d s)
+      (by_ground (λ (r : Sending). (told_send r.answer).number) (λ r. is_ok r.answer) (send_grounds F e a) (accepted F e a.given) (refused e a) (send_numbered F e a) refl (λ r. (refl, refl)))
+      (λ r. (refl, refl))
 
-  pub hear_zero : (v : Receiver) (a : Arrival) → eqb (told_receive (hear_step d s v a).answer).number 0 ≡ is_received (hear_step d s v a).answer
+  pub hear_zero : (v : Receiver) (a : Arrival) → eqb (told_receive (hear_step d s v a).answer).number 0 ≡ is_ok (hear_step d s v a).answer
   unfolding hear_step frame_receive received
   hear_zero v a =
       let F : Frame = frame_of d (plan_of s) in
-      by_ground (λ (r : Receiving). (told_receive r.answer).number) (λ r. is_received r.answer) (grounds1to15 d s) (frame_receive F v a) (turned_away v a) (plan_numbered d s)
-      (by_ground (λ (r : Receiving). (told_receive r.answer).number) (λ r. is_received r.answer) (receive_grounds F v a) (received F v a) (turned_away v a) (receive_numbered F v a)
-      (by_test (receive.warming F v.state) (λ q. rw q refl) (λ q. rw q refl)) (λ n place. (refl, refl)))
-      (λ n place. (refl, refl))
+      by_ground (λ (r : Receiving). (told_receive r.answer).number) (λ r. is_ok r.answer) (grounds1to15 d s) (frame_receive F v a) (turned_away v a) (plan_numbered d s)
+      (by_ground (λ (r : Receiving). (told_receive r.answer).number) (λ r. is_ok r.answer) (receive_grounds F v a) (received F v a) (turned_away v a) (receive_numbered F v a)
+      (by_test (receive.warming F v.state) (λ q. rw q refl) (λ q. rw q refl)) (λ r. (refl, refl)))
+      (λ r. (refl, refl))
 
   -- what is filled, and what filling that is refused leaves
-  away : List ℕ → ℕ → ℕ → Filling
-  away l n place = fills (a-count.Refused n place) l
+  away : List ℕ → Refusal → Filling
+  away l r = fills (Err r) l
 
   pub fill_zero : (w : List ℕ) (j : ℕ) (stream : List ℕ) (a : ℕ) (room : List ℕ)
-      → eqb (told_count (fill_step d s w j stream a room).answer).number 0 ≡ is_count (fill_step d s w j stream a room).answer
+      → eqb (told_count (fill_step d s w j stream a room).answer).number 0 ≡ is_ok (fill_step d s w j stream a room).answer
   unfolding fill_step frame_fill away
   fill_zero w j stream a room =
       let F : Frame = frame_of d (plan_of s) in
-      by_ground (λ (r : Filling). (told_count r.answer).number) (λ r. is_count r.answer) (grounds1to15 d s) (frame_fill F w j stream a room) (away room) (plan_numbered d s)
-      (by_ground (λ (r : Filling). (told_count r.answer).number) (λ r. is_count r.answer) (fill_grounds F w j (length room) (length stream) a)
-      (fills (a-count.Count (bit_count F w j)) (filled_from (data_loads F w j) stream a)) (away room) (fill_numbered F w j (length room) (length stream) a) refl (λ n place. (refl, refl)))
-      (λ n place. (refl, refl))
+      by_ground (λ (r : Filling). (told_count r.answer).number) (λ r. is_ok r.answer) (grounds1to15 d s) (frame_fill F w j stream a room) (away room) (plan_numbered d s)
+      (by_ground (λ (r : Filling). (told_count r.answer).number) (λ r. is_ok r.answer) (fill_grounds F w j (length room) (length stream) a)
+      (fills (Ok (bit_count F w j)) (filled_from (data_loads F w j) stream a)) (away room) (fill_numbered F w j (length room) (length stream) a) refl (λ r. (refl, refl)))
+      (λ r. (refl, refl))
 
   pub unfill_zero : (w : List ℕ) (j : ℕ) (ds : List ℕ) (a : ℕ) (stream : List ℕ)
-      → eqb (told_count (unfill_step d s w j ds a stream).answer).number 0 ≡ is_count (unfill_step d s w j ds a stream).answer
+      → eqb (told_count (unfill_step d s w j ds a stream).answer).number 0 ≡ is_ok (unfill_step d s w j ds a stream).answer
   unfolding unfill_step frame_unfill away
   unfill_zero w j ds a stream =
       let F : Frame = frame_of d (plan_of s) in
-      by_ground (λ (r : Filling). (told_count r.answer).number) (λ r. is_count r.answer) (grounds1to15 d s) (frame_unfill F w j ds a stream) (away stream) (plan_numbered d s)
-      (by_ground (λ (r : Filling). (told_count r.answer).number) (λ r. is_count r.answer) (unfill_grounds F w j ds (length stream) a)
-      (fills (a-count.Count (bit_count F w j)) (unfilled_into (data_loads F w j) ds stream a)) (away stream) (unfill_numbered F w j ds (length stream) a) refl (λ n place. (refl, refl)))
-      (λ n place. (refl, refl))
+      by_ground (λ (r : Filling). (told_count r.answer).number) (λ r. is_ok r.answer) (grounds1to15 d s) (frame_unfill F w j ds a stream) (away stream) (plan_numbered d s)
+      (by_ground (λ (r : Filling). (told_count r.answer).number) (λ r. is_ok r.answer) (unfill_grounds F w j ds (length stream) a)
+      (fills (Ok (bit_count F w j)) (unfilled_into (data_loads F w j) ds stream a)) (away stream) (unfill_numbered F w j ds (length stream) a) refl (λ r. (refl, refl)))
+      (λ r. (refl, refl))
 
-  pub pilots_zero : eqb (told_count (pilots_answer d s).answer).number 0 ≡ is_count (pilots_answer d s).answer
+  pub pilots_zero : eqb (told_count (pilots_answer d s).answer).number 0 ≡ is_ok (pilots_answer d s).answer
   unfolding pilots_answer
   pilots_zero =
-      by_ground (λ (p : PilotAnswer). (told_count p.answer).number) (λ p. is_count p.answer) (grounds1to15 d s) (listing (continuous_pilots d (plan_of s))) no_listing (plan_numbered d s) refl (λ n place. (refl, refl))
+      by_ground (λ (p : PilotAnswer). (told_count p.answer).number) (λ p. is_ok p.answer) (grounds1to15 d s) (listing (continuous_pilots d (plan_of s))) no_listing (plan_numbered d s) refl (λ r. (refl, refl))
 
   lamp_numbered : (r : List ℕ) (n : ℕ) → numbered (lamp_finding d s r n) ≡ true
   unfolding lamp_finding lamp_grounds
@@ -298,7 +291,7 @@ module _ (d : Device) (s : List ℕ) where
       both (grounds1to15 d s) _ (plan_numbered d s)
       (more 28 (when (bad_record lamp_cap (length (continuous_pilots d (plan_of s))) r) 0) _ refl (last 17 (when (not (eqb n d.subcarriers)) 0) refl))
 
-  pub lamp_zero : (r y : List ℕ) → eqb (told_count (lamp_step d s r y).answer.answer).number 0 ≡ is_count (lamp_step d s r y).answer.answer
+  pub lamp_zero : (r y : List ℕ) → eqb (told_count (lamp_step d s r y).answer.answer).number 0 ≡ is_ok (lamp_step d s r y).answer.answer
   unfolding lamp_step lamp_hears
   lamp_zero r y =
-      by_ground (λ (m : Hearing). (told_count m.answer.answer).number) (λ m. is_count m.answer.answer) (lamp_finding d s r (length y)) (lamp_hears d s r y) (λ n place. leaves_record (no_lights n place) r) (lamp_numbered r (length y)) refl (λ n place. (refl, refl))
+      by_ground (λ (m : Hearing). (told_count m.answer.answer).number) (λ m. is_ok m.answer.answer) (lamp_finding d s r (length y)) (lamp_hears d s r y) (λ x. leaves_record (no_lights x) r) (lamp_numbered r (length y)) refl (λ r. (refl, refl))

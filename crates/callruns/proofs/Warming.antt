@@ -12,8 +12,9 @@ use Rattle.counting.specs.Search.{pick}
 use Rattle.counting.proofs.Bools.{by_test}
 use Rattle.counting.proofs.Lists.{get_or-sets_0}
 use Rattle.rules.specs.declared.Device.{Device}
-use Rattle.rules.specs.declared.Finding.{Finding}
-use Rattle.rules.specs.declared.Finding.TheVariants.{Fine, Ground}
+use Rattle.rules.specs.declared.Refusal.{Refusal}
+use Rattle.rules.specs.Refusals.{Finding}
+use Rattle.std.specs.Prelude.{Ok, Err, is_ok}
 use Rattle.rules.specs.declared.ReceiverState.{ReceiverState}
 use Rattle.rules.specs.Plan.{plan_of}
 use Rattle.rules.specs.Grounds.{grounds1to15}
@@ -27,7 +28,6 @@ use Rattle.bytecells.specs.ByteSteps.{receive_bytes}
 use Rattle.answerbytes.specs.declared.Told.{Told}
 use Rattle.answerbytes.specs.Layout.{four, layout, short, written}
 use Rattle.answers.specs.Answer.{told_receive}
-use Rattle.runs.specs.Run.{is_received}
 use Rattle.headend.specs.Calls.{says, StepSaid, says_step, receive_told, receive_call}
 use Rattle.callruns.specs.Host.{is_warming, number_in, value_in, ZeroIsWarming}
 use Rattle.callruns.specs.CallEntries.{told_in}
@@ -74,21 +74,21 @@ long a e = ltb-false (length a) 16 e
 
 -- an answer that does not refuse has the value 0 exactly if it is warming
 unfoldable pub Tells : Receiving → Type 0
-Tells r = is_received r.answer ≡ true → eqb (told_receive r.answer).value 0 ≡ is_warming r.answer
+Tells r = is_ok r.answer ≡ true → eqb (told_receive r.answer).value 0 ≡ is_warming r.answer
 
 -- what is made where nothing is found, and what else
-by_ground : (f : Finding) (made : Receiving) (away : ℕ → ℕ → Receiving) → (f ≡ Fine → Tells made) → ((n place : ℕ) → is_received (away n place).answer ≡ false)
-    → Tells (elim f [ Fine ↦ made | Ground n place ↦ away n place ])
+by_ground : (f : Finding) (made : Receiving) (away : Refusal → Receiving) → (f ≡ Ok tt → Tells made) → ((r : Refusal) → is_ok (away r).answer ≡ false)
+    → Tells (elim f [ Ok _ ↦ made | Err r ↦ away r ])
 unfolding Tells
-by_ground Fine made away hm ha t = hm refl t
-by_ground (Ground n place) made away hm ha t = absurd (false≢true (sym (ha n place) ∙ t))
+by_ground (Ok tt) made away hm ha t = hm refl t
+by_ground (Err r) made away hm ha t = absurd (false≢true (sym (ha r) ∙ t))
 
 module _ (d : Device) (s : List ℕ) (roomy : Roomy d) where
-  some_out : grounds1to15 d s ≡ Fine → (v : ReceiverState) → 1 ≤ out_count (frame_of d (plan_of s)) v
+  some_out : grounds1to15 d s ≡ Ok tt → (v : ReceiverState) → 1 ≤ out_count (frame_of d (plan_of s)) v
   unfolding frame_of
   some_out fine v = some_data d s roomy fine (out_phase (frame_of d (plan_of s)) v.phase) (mod-lt _ (omega arith))
 
-  received_tells : grounds1to15 d s ≡ Fine → (v : Receiver) (a : Arrival) → Tells (received (frame_of d (plan_of s)) v a)
+  received_tells : grounds1to15 d s ≡ Ok tt → (v : Receiver) (a : Arrival) → Tells (received (frame_of d (plan_of s)) v a)
   unfolding Tells received
   received_tells fine v a =
       by_test (receive.warming (frame_of d (plan_of s)) v.state)
@@ -100,8 +100,8 @@ module _ (d : Device) (s : List ℕ) (roomy : Roomy d) where
   hear_tells v a =
       let F : Frame = frame_of d (plan_of s) in
       by_ground (grounds1to15 d s) (frame_receive F v a) (turned_away v a)
-      (λ fine. by_ground (receive_grounds F v a) (received F v a) (turned_away v a) (λ e. received_tells fine v a) (λ n place. refl))
-      (λ n place. refl)
+      (λ fine. by_ground (receive_grounds F v a) (received F v a) (turned_away v a) (λ e. received_tells fine v a) (λ r. refl))
+      (λ r. refl)
 
   pub bytes_tell : (w : List ℕ) (v : ReceiverState) (store y b : List ℕ) → Tells (receive_bytes d s w v store y b)
   unfolding Tells receive_bytes receive_step

@@ -1,18 +1,10 @@
 -- The calls, as a C host steps through them (requests 01 and 07): it lends an answer buffer, and takes the number that a call returns and the four numbers that the
 -- call left in the buffer. Assumes nothing.
-use Rattle.std.specs.Prelude.{ℕ, ◌≡◌, false, not, List, eqb}
+use Rattle.std.specs.Prelude.{ℕ, ◌≡◌, false, not, List, eqb, Ok}
 use Rattle.counting.specs.Search.{pick}
 use Rattle.rules.specs.declared.Device.{Device}
-use Rattle.rules.specs.declared.StartAnswer.{StartAnswer}
-use Rattle.rules.specs.declared.StartAnswer.TheVariants as a-start
-use Rattle.rules.specs.declared.ListenAnswer.{ListenAnswer}
-use Rattle.rules.specs.declared.ListenAnswer.TheVariants as a-listen
-use Rattle.rules.specs.declared.SendAnswer.{SendAnswer}
-use Rattle.rules.specs.declared.SendAnswer.TheVariants as a-send
-use Rattle.rules.specs.declared.ReceiveAnswer.{ReceiveAnswer}
-use Rattle.rules.specs.declared.ReceiveAnswer.TheVariants as a-receive
-use Rattle.rules.specs.declared.CountAnswer.{CountAnswer}
-use Rattle.rules.specs.declared.CountAnswer.TheVariants as a-count
+use Rattle.rules.specs.declared.Heard.TheVariants.{Warming, Data}
+use Rattle.rules.specs.Refusals.{refusal, refused_step, CountAnswer, StartAnswer, ListenAnswer, SendAnswer, ReceiveAnswer, refused_by}
 use Rattle.rules.specs.Frame.{Given, flush, symbol}
 use Rattle.rules.specs.Steps.{Emitter, Sending, leaves, Starting, starts}
 use Rattle.rules.specs.Receive.{Receiver, Arrival, Receiving, hears, Listening, listens}
@@ -36,25 +28,25 @@ told_in c = record {
 
 -- how a host takes it: the number 0 is not refused, and of a receive call the value 0 is warming
 abbrev pub start_of : Told → StartAnswer
-start_of t = pick (eqb t.number 0) (a-start.Started (record { phase = t.phase })) (a-start.Refused t.number t.place)
+start_of t = pick (eqb t.number 0) (Ok (record { phase = t.phase })) (refused_by t.number t.place)
 
 abbrev pub listen_of : Told → ListenAnswer
-listen_of t = pick (eqb t.number 0) (a-listen.Started (record { phase = t.phase; heard = t.heard })) (a-listen.Refused t.number t.place)
+listen_of t = pick (eqb t.number 0) (Ok (record { phase = t.phase; heard = t.heard })) (refused_by t.number t.place)
 
 abbrev pub send_of : Told → SendAnswer
 send_of t =
-    pick (eqb t.number 0) (a-send.Sent (record { phase = t.phase }))
-    (a-send.Refused t.number t.place (record { phase = t.phase }))
+    pick (eqb t.number 0) (Ok (record { phase = t.phase }))
+    (refused_step (refusal t.number t.place) (record { phase = t.phase }))
 
 abbrev pub receive_of : Told → ReceiveAnswer
 receive_of t =
     pick (eqb t.number 0)
-    (pick (eqb t.value 0) (a-receive.Warming (record { phase = t.phase; heard = t.heard }))
-    (a-receive.Data (record { phase = t.phase; heard = t.heard }) t.value))
-    (a-receive.Refused t.number t.place (record { phase = t.phase; heard = t.heard }))
+    (pick (eqb t.value 0) (Ok (Warming (record { phase = t.phase; heard = t.heard })))
+    (Ok (Data (record { phase = t.phase; heard = t.heard }) t.value)))
+    (refused_step (refusal t.number t.place) (record { phase = t.phase; heard = t.heard }))
 
 abbrev pub count_of : Told → CountAnswer
-count_of t = pick (eqb t.number 0) (a-count.Count t.value) (a-count.Refused t.number t.place)
+count_of t = pick (eqb t.number 0) (Ok t.value) (refused_by t.number t.place)
 
 -- with what the call left
 abbrev pub start_said : StoreSaid → Starting

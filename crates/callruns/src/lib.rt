@@ -2,9 +2,8 @@
 // (crate runs), of the calls as a host takes them (specs/CallEntries). The functions do nothing; their contracts are the claims.
 #![tactic(auto)]
 
-ghost use Rattle.std.specs.Prelude.{ℕ, ◌≡◌, false, List};
+ghost use Rattle.std.specs.Prelude.{ℕ, ◌≡◌, false, List, Ok};
 ghost use Rattle.rules.specs.declared.Device.{Device};
-ghost use Rattle.rules.specs.declared.Verdict.TheVariants.{Accepted};
 ghost use Rattle.rules.specs.Device.{khz50};
 ghost use Rattle.rules.specs.Plan.{plan_of};
 ghost use Rattle.rules.specs.Grounds.{verdict};
@@ -33,12 +32,12 @@ pub fn why_is_read()
 
 // Every accepted plan, every starting phase, all lists of calls, in any answer buffer that is long enough: placed, unique, returned, streams.
 pub fn demand_3_calls()
-    ensures { (s : List ℕ) (n : ℕ) → verdict khz50 s ≡ Accepted n → (a : List ℕ) → short a ≡ false → Demand3 (frame_of khz50 (plan_of s)) (call_entries khz50 s a) }
+    ensures { (s : List ℕ) (n : ℕ) → verdict khz50 s ≡ Ok n → (a : List ℕ) → short a ≡ false → Demand3 (frame_of khz50 (plan_of s)) (call_entries khz50 s a) }
 {}
 
 // The claims beside it, of the same.
 pub fn plan_claims_calls()
-    ensures { (s : List ℕ) (n : ℕ) → verdict khz50 s ≡ Accepted n → (a : List ℕ) → short a ≡ false → PlanClaims (frame_of khz50 (plan_of s)) (call_entries khz50 s a) }
+    ensures { (s : List ℕ) (n : ℕ) → verdict khz50 s ≡ Ok n → (a : List ℕ) → short a ≡ false → PlanClaims (frame_of khz50 (plan_of s)) (call_entries khz50 s a) }
 {}
 
 // Any bytes as a plan: what a host reads from a call hangs on nothing that its answer buffer held.

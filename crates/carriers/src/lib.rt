@@ -12,7 +12,7 @@ use counting::wide;
 fn one_if_zero(x: u16) -> u16
     ensures { (result ≡ bit (eqb x 0)) × (result ≤ 1) }
 {
-    if x == 0 { 1 } else { 0 }
+    u16::from(x == 0)
 }
 
 // How many of the 8 marks from k on are 0.
@@ -21,10 +21,8 @@ fn zeros(mark: &[u16], k: usize) -> u16
     ensures { result ≡ count (λ i. is_zero mark.now (k + i)) 8 }
 {
     let mut n: u16 = 0;
-    let mut i: usize = 0;
-    while i < 8 {
-        n = n + one_if_zero(mark[k + i]);
-        i = i + 1;
+    for x in &mark[k..k + 8] {
+        n += one_if_zero(*x);
     }
     n
 }
@@ -34,10 +32,8 @@ fn take_all(mark: &[u16], k: usize, n: usize, car: &mut [u16])
     requires { (k + 8 ≤ 4096) × (k + 8 ≤ length car.old) × (count (λ i. is_zero mark.now (k + i)) 8 ≡ 8) × Listed mark.now k n car.old }
     ensures { Listed mark.now (k + 8) (n + 8) car.new }
 {
-    let mut i: usize = 0;
-    while i < 8 {
+    for i in 0..8 {
         car[n + i] = (k + i) as u16;
-        i = i + 1;
     }
 }
 
@@ -48,11 +44,9 @@ fn take_some(mark: &[u16], from: usize, to: usize, n: usize, car: &mut [u16]) ->
     ensures { Listed mark.now to result car.new }
 {
     let mut m = n;
-    let mut k = from;
-    while k < to {
+    for k in from..to {
         car[m] = k as u16;
-        m = m + wide(one_if_zero(mark[k]));
-        k = k + 1;
+        m += wide(one_if_zero(mark[k]));
     }
     m
 }
@@ -80,11 +74,9 @@ pub fn carriers(mark: &[u16], width: usize, car: &mut [u16]) -> usize
     ensures listed { (i : ℕ) → i < result → get_or car.new i 0 ≡ select (is_zero mark.now) width i }
 {
     let mut n: usize = 0;
-    let mut k: usize = 0;
-    while k + 8 <= width {
-        let next = block(mark, k, n, car);
-        n = next;
-        k = k + 8;
+    let blocks = width / 8;
+    for b in 0..blocks {
+        n = block(mark, 8 * b, n, car);
     }
-    take_some(mark, k, width, n, car)
+    take_some(mark, 8 * blocks, width, n, car)
 }

@@ -1,9 +1,9 @@
-// The second emitter's time interleaver, the figure of document 003 taken literally (document 02, request 09; crate figure has the definitions): M delay
-// lines side by side in one store, line r holding r * J cells, the oldest first, and a commutator that goes round them. For each place of the
-// commutator one cell goes in and one comes out. The definition shifts a line at every cell. The code does not: within a symbol a line is a ring in
-// its own part of the store, where in turn q the oldest cell stands at place q and the cell that goes in takes its place; after the symbol the
-// line is rotated by J places, so that the oldest stands first (crate rotatedlines). The code is proved equal to the definition, and its time is linear in the store and
-// the symbol.
+// The second emitter's time interleaver, the figure of document 003 taken literally (document 02, request 09; crate figure has the
+// definitions): M delay lines side by side in one store, line r holding r * J cells, the oldest first, and a commutator that goes round
+// them. For each place of the commutator one cell goes in and one comes out. The definition shifts a line at every cell. The code does
+// not: within a symbol a line is a ring in its own part of the store, where in turn q the oldest cell stands at place q and the cell
+// that goes in takes its place; after the symbol the line is rotated by J places, so that the oldest stands first (crate rotatedlines).
+// The code is proved equal to the definition, and its time is linear in the store and the symbol.
 #![tactic(auto)]
 
 ghost use Rattle.std.specs.Prelude.{◌≡◌, ◌+◌, ◌*◌, ◌≤◌, ◌<◌, length, get_or, set};
@@ -49,29 +49,25 @@ fn turn(m: usize, j: usize, q: usize, store: &mut [u16], cells: &mut [u16])
     ensures { Goes j m (q * m) store.old cells.old ((q + 1) * m) store.new cells.new }
 {
     let first = q * m;
-    let mut r = 1;
     let mut at = q;
     let mut len = j;
-    while r < m {
+    for r in 1..m {
         exchange(at, first + r, store, cells);
-        at = at + len;
-        len = len + j;
-        r += 1;
+        at += len;
+        len += j;
     }
 }
 
-// A symbol goes through the lines, in j turns of the commutator: its cells go in, and the delayed cells come out in their place. Then the lines are
-// rotated.
+// A symbol goes through the lines, in j turns of the commutator: its cells go in, and the delayed cells come out in their place. Then
+// the lines are rotated.
 pub fn pass(m: usize, store: &mut [u16], cells: &mut [u16])
     requires { (0 < m) × (m ≤ capacity) × (length cells.old ≤ capacity) × (line_begins (ceiling (length cells.old) m) m ≤ length store.old) }
     ensures stored { store.new ≡ figure_store m (length cells.old) store.old cells.old }
     ensures sent { cells.new ≡ figure_cells m (length cells.old) store.old cells.old }
 {
     let j = figure::ceiling(cells.len(), m);
-    let mut q = 0;
-    while q < j {
+    for q in 0..j {
         turn(m, j, q, store, cells);
-        q += 1;
     }
     rotatedlines::rotate_lines(m, j, store);
 }

@@ -1,11 +1,11 @@
 -- Laws of a text that is printed byte by byte. Assumes nothing.
-use Rattle.std.proofs.Common.{◌≡◌, ℕ, Bool, true, false, [], ◌∷◌, refl, subst, ◌+◌, ◌<◌, ◌≤◌, List, [], ◌++◌, length, drop, get_or, sym, ap, ap₂, ◌∙◌, drop_of_length-le, append-nil, append_assoc}
+use Rattle.std.proofs.Common.{◌≡◌, ℕ, Bool, true, false, [], ◌∷◌, refl, subst, ◌+◌, ◌<◌, ◌≤◌, List, ◌++◌, length, drop, get_or, sym, ap, ap₂, ◌∙◌, drop_of_length-le, append-nil, append_assoc}
 use Rattle.std.proofs.lemmas.List.{drop_more, get_or-drop, drop-drop}
 use borrow.Author.Tests.{ne_eqb}
 use native.Mathlib.Numerals.{unary_clauses}
 use Rattle.std.specs.Prelude.{Option}
 use Rattle.std.specs.Io.KnownBytes.{Appends}
-use Rattle.std.proofs.KnownBytes.{Appends-nil, Appends-trans}
+use Rattle.std.proofs.KnownBytes.{Appends-trans}
 use Rattle.text.specs.Text.{decimal}
 use Rattle.console.specs.Printed.{piece, used, printed}
 
@@ -53,9 +53,6 @@ printed_all text numbers done i next h e =
 -- the writer has taken what the first i bytes of the text print, which used up so many numbers
 abbrev pub PrintedTo : Option (List ℕ) → Option (List ℕ) → List ℕ → List ℕ → ℕ → ℕ → Type 0
 PrintedTo old new text numbers i next = (bs : List ℕ) × Appends old new bs × (bs ++ printed (drop i text) (drop next numbers) ≡ printed text numbers)
-
-pub printed_to_none : (a : Option (List ℕ)) (text numbers : List ℕ) → PrintedTo a a text numbers 0 0
-printed_to_none a text numbers = ([], Appends-nil a, refl)
 
 pub printed_to_more : (a b c : Option (List ℕ)) (text numbers : List ℕ) (i next n u : ℕ) → i < length text → n ≡ get_or numbers next 0
     → u ≡ used (get_or text i 0) → PrintedTo a b text numbers i next → Appends b c (piece (get_or text i 0) n) → PrintedTo a c text numbers (i + 1) (next + u)

@@ -6,7 +6,6 @@ use lib.Seq.{take-append_seam}
 use Rattle.std.specs.Prelude.{Option}
 use Rattle.std.specs.Io.KnownBytes.{Appends}
 use Rattle.io.specs.Counts.{IsPrefixLen}
-use Rattle.console.specs.declared.Input.TheVariants.{Bytes}
 use Rattle.console.specs.Reading.{Takes}
 
 -- where the front of the bytes is all that was there, or fills them
@@ -20,7 +19,7 @@ front xs ys bytes n p e end =
     let long : length bytes ≡ length (take n bytes) = omega (arith, p.0, p.1) in
     ap (take (length bytes)) e ∙ ap (λ (k : ℕ). take k (take n bytes ++ ys)) long ∙ take-append_seam (take n bytes) ys)
 
-pub taken : (old new : Option (List ℕ)) (n : ℕ) (bytes : List ℕ) → IsPrefixLen n bytes → Takes old new (Bytes n) bytes
+pub taken : (old new : Option (List ℕ)) (n : ℕ) (bytes : List ℕ) → IsPrefixLen n bytes → Takes old new (Some n) bytes
     → IfSome old (λ xs. take (length bytes) xs ≡ take n bytes)
 taken None new n bytes p t = tt
 taken (Some xs) None n bytes p t = absurd t.0
@@ -28,7 +27,7 @@ taken (Some xs) (Some ys) n bytes p t = front xs ys bytes n p t.0 t.1
 
 -- what was printed of the bytes that were read is what is printed of the reader's first bytes
 pub taken_line : {X : Type 0} (held : X → Option (List ℕ)) (line : List ℕ → List ℕ) (old new : Option (List ℕ)) (n room : ℕ) (bytes : List ℕ) (before read printed after : X)
-    → length bytes ≡ room → IsPrefixLen n bytes → Takes old new (Bytes n) bytes → read ≡ before → after ≡ printed
+    → length bytes ≡ room → IsPrefixLen n bytes → Takes old new (Some n) bytes → read ≡ before → after ≡ printed
     → Appends (held read) (held printed) (line (take n bytes)) → IfSome old (λ xs. Appends (held before) (held after) (line (take room xs)))
 taken_line held line None new n room bytes before read printed after l p t e f a = tt
 taken_line held line (Some xs) new n room bytes before read printed after l p t e f a =

@@ -1,6 +1,6 @@
 // What the programs read from standard input or a file, the lines that they print, and what they tell standard error where either fails. No
-// contract can say which bytes a file or a terminal gives or takes. Those here say what is done with the bytes of any reader and any writer that
-// tell them: which were read, in which order, and that a line which was printed says its text and its numbers.
+// contract can say which bytes a file or a terminal gives or takes. Those here say what is done with the bytes of any reader and any writer
+// that tell them: which were read, in which order, and that a line which was printed says its text and its numbers.
 #![tactic(auto)]
 
 ghost use Rattle.std.specs.Prelude.{◌≤◌, min, ◌≡◌, length, get_or, take, IsTrue, [], ◌∷◌};
@@ -32,49 +32,37 @@ pub fn standard(rt: &HostRuntime) -> Standard {
     }
 }
 
-// What reading gave: so many bytes, fewer than there was room for only where the input ended, or nothing, as a read failed.
-#[derive(Clone, Copy)]
-pub enum Input {
-    Bytes(usize),
-    Failed,
-}
-
-// One read into the bytes from a place on: how many it put there, 0 where the input has ended. A read that a signal interrupts before it
-// moves a byte has failed.
-fn read_from<R: Read>(reader: &mut R, bytes: &mut [u8], from: usize) -> Input
+// One read into the bytes from a place on: how many it put there, 0 where the input has ended; none where the read failed, as one has that
+// a signal interrupts before it moves a byte.
+fn read_from<R: Read>(reader: &mut R, bytes: &mut [u8], from: usize) -> Option<usize>
     requires { from ≤ length bytes.old }
     ensures holds { HoldsFrom from result bytes.new }
     ensures before { take from bytes.new ≡ take from bytes.old }
     ensures takes { TakesFrom (R.remaining reader.old) (R.remaining reader.new) from result bytes.new }
 {
-    match reader.read(&mut bytes[from..]) {
-        Ok(n) => Input::Bytes(n),
-        Err(_) => Input::Failed,
-    }
+    reader.read(&mut bytes[from..]).ok()
 }
 
-// Reads until the bytes are full, the input ends or a read fails.
-pub fn read_open<R: Read>(reader: &mut R, bytes: &mut [u8]) -> Input
+// Reads until the bytes are full, the input ends or a read fails: how many bytes, fewer than there was room for only where the input ended,
+// or none, as a read failed.
+pub fn read_open<R: Read>(reader: &mut R, bytes: &mut [u8]) -> Option<usize>
     ensures holds { Holds result bytes.new }
     ensures takes { Takes (R.remaining reader.old) (R.remaining reader.new) result bytes.new }
 {
     let mut done = 0;
+    // Counted by hand: `done` grows by as many bytes as a read gave, and a `for` has no such step.
     while done < bytes.len() {
-        match read_from(reader, bytes, done) {
-            Input::Failed => return Input::Failed,
-            Input::Bytes(n) => {
-                if n == 0 {
-                    return Input::Bytes(done);
-                }
-                done += n;
-            }
+        let n = read_from(reader, bytes, done)?;
+        if n == 0 {
+            return Some(done);
         }
+        done += n;
     }
-    Input::Bytes(done)
+    Some(done)
 }
 
 // The same of a program's input.
-pub fn read<I: Read, O, E>(streams: &mut Streams<I, O, E>, bytes: &mut [u8]) -> Input
+pub fn read<I: Read, O, E>(streams: &mut Streams<I, O, E>, bytes: &mut [u8]) -> Option<usize>
     ensures holds { Holds result bytes.new }
     ensures takes { Takes (I.remaining streams.old.input) (I.remaining streams.new.input) result bytes.new }
     ensures output { streams.new.output ≡ streams.old.output }
@@ -110,8 +98,8 @@ pub fn fill<I: Read, O, E: Write>(
     ensures output { streams.new.output ≡ streams.old.output }
 {
     match read(streams, bytes) {
-        Input::Bytes(n) => n == bytes.len(),
-        Input::Failed => {
+        Some(n) => n == bytes.len(),
+        None => {
             tell_unread(streams, program);
             false
         }
@@ -123,10 +111,7 @@ fn read_more<I: Read, O, E>(streams: &mut Streams<I, O, E>, space: &mut [u8]) ->
     ensures output { streams.new.output ≡ streams.old.output }
     ensures errors { streams.new.errors ≡ streams.old.errors }
 {
-    match read(streams, space) {
-        Input::Bytes(n) => 0 < n,
-        Input::Failed => false,
-    }
+    read(streams, space).is_some_and(|n| 0 < n)
 }
 
 // Reads on into the space, over and over, until the input ends, a read fails or it was filled 1,024 times.
@@ -261,15 +246,12 @@ pub fn print_line<I, O: Write, E: Write>(
     ensures prints { IsTrue result → Appends (O.contents streams.old.output) (O.contents streams.new.output) (printed text.now numbers) }
     ensures input { streams.new.input ≡ streams.old.input }
 {
-    let mut next: usize = 0;
-    let mut i: usize = 0;
-    while i < text.len() {
-        let byte = text[i];
-        if !print_piece(streams, program, byte, at(numbers, next)) {
+    let mut next = 0;
+    for byte in text {
+        if !print_piece(streams, program, *byte, at(numbers, next)) {
             return false;
         }
-        next += uses(byte);
-        i += 1;
+        next += uses(*byte);
     }
     true
 }

@@ -1,6 +1,6 @@
 -- Rows of Gray values, each made from the one before. Assumes nothing.
 use Prim.Native.Nat.{ℕ, zero, suc, ◌+◌, ◌-◌, ◌*◌, ◌/◌, ◌%◌, ◌^◌, ◌<◌, ◌≤◌}
-use mathlib.Core.Path.{◌≡◌, refl, sym, ap, ◌∙◌, subst}
+use mathlib.Core.Path.{◌≡◌, refl, sym, ap, ◌∙◌}
 use mathlib.Core.List.{List}
 use mathlib.Core.Logic.{by_cases}
 use native.Mathlib.Omega.{arith}
@@ -73,9 +73,6 @@ pub record Doubled (n : ℕ) (w : List ℤ) (k : ℕ) : Type 0 where
   pub next : (i : ℕ) → 2 ^ suc n + i < 2 * k → get_or w (2 ^ suc n + i) (pos 0) ≡ gray (suc n) i
 
 module _ (n : ℕ) (w : List ℤ) where
-  pub doubled_start : length w ≡ 256 → GrayRows (suc n) w → (k : ℕ) → k ≡ 2 ^ n → Doubled n w k
-  doubled_start l g k e = record { long = l; from = omega arith; rows = g; next = λ i h. absurd (omega (arith, pow-suc 2 n)) }
-
   module _ (k : ℕ) (d : Doubled n w k) (h : k < 2 * 2 ^ n) where
     -- the value of n bits that both are made from
     pub source : get_or w k (pos 0) ≡ gray n (k - 2 ^ n)
@@ -108,11 +105,3 @@ module _ (n : ℕ) (w : List ℤ) where
               let z : i ≡ 2 * (k - 2 ^ n) + 1 = omega arith in
               rw e (get_or-set_same y (2 * k + 1) b (pos 0) (omega arith) ∙ eb ∙ ap (gray (suc n)) (sym z))));
         }
-
-  -- all of n + 1 bits
-  pub doubled_all : (k : ℕ) → Doubled n w k → 2 * 2 ^ n ≤ k → GrayRows (suc (suc n)) w
-  doubled_all k d h m lm i li =
-      by_cases (dec_lt m (suc n)) (λ c. d.rows m c i li)
-      (λ c.
-      let e : m ≡ suc n = omega arith in
-      subst (λ (j : ℕ). get_or w (2 ^ j + i) (pos 0) ≡ gray j i) (sym e) (d.next i (omega (arith, pow-suc 2 n, ap (λ (j : ℕ). 2 ^ j) e))))

@@ -1,6 +1,6 @@
 -- A row written into the table number by number, and what writing leaves of the rows below. Assumes nothing.
 use Prim.Native.Nat.{ℕ, ◌+◌, ◌<◌, ◌≤◌}
-use mathlib.Core.Path.{◌≡◌, refl, ◌∙◌}
+use mathlib.Core.Path.{◌≡◌, ◌∙◌}
 use mathlib.Core.List.{List}
 use mathlib.Core.Logic.{by_cases}
 use native.Mathlib.Omega.{arith}
@@ -11,9 +11,6 @@ use lib.Ieee.{Float, nan}
 use Rattle.coordinates.specs.Table.{Row, Written}
 
 module _ (t : List Float) (at : ℕ) (f : ℕ → Float) where
-  pub written_none : Written t at 0 f t
-  written_none = record { long = refl; below = λ i h. refl; row = λ i h. absurd (omega arith) }
-
   -- one number more
   pub written_next : (n : ℕ) (y : List Float) → Written t at n f y → (v : Float) → v ≡ f n → at + n < length t → Written t at (n + 1) f (set y (at + n) v)
   written_next n y w v e room = record {

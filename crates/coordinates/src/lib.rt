@@ -22,13 +22,10 @@ fn gray_row(w: &mut [i32; 256], n: u32)
 {
     let p = power(n);
     let step = p as i32;
-    let end = 2 * p as usize;
-    let mut k = p as usize;
-    while k < end {
+    for k in p as usize..2 * p as usize {
         let c = step + w[k];
         w[2 * k] = c;
         w[2 * k + 1] = -c;
-        k += 1;
     }
 }
 
@@ -38,10 +35,8 @@ fn gray_rows(w: &mut [i32; 256])
     ensures { (length w.new ≡ 256) × GrayRows 8 w.new }
 {
     w[1] = 0;
-    let mut n: u32 = 0;
-    while n < 7 {
+    for n in 0..7 {
         gray_row(w, n);
-        n += 1;
     }
 }
 
@@ -51,11 +46,8 @@ fn fill_row(t: &mut [f32; ENTRIES], w: &[i32; 256], at: usize, bits: u32, f: f32
     ensures { Written t.old at (2 ^ bits) (λ i. times f (gray bits i)) t.new }
 {
     let p = power(bits) as usize;
-    let mut i: usize = 0;
-    while i < p {
-        let v = scale(w[p + i], f);
-        t[at + i] = v;
-        i += 1;
+    for i in 0..p {
+        t[at + i] = scale(w[p + i], f);
     }
 }
 
@@ -65,12 +57,8 @@ fn fill_upper(t: &mut [f32; ENTRIES], w: &[i32; 256], at: usize, bits: u32, s: u
     ensures { Written t.old at (2 ^ bits) (λ i. times f (cross s (gray bits i) (pos q)).x) t.new }
 {
     let p = power(bits) as usize;
-    let mut k: usize = 0;
-    while k < p {
-        let c = crossed(s, w[p + k], q as i32);
-        let v = scale(c.x, f);
-        t[at + k] = v;
-        k += 1;
+    for k in 0..p {
+        t[at + k] = scale(crossed(s, w[p + k], q as i32).x, f);
     }
 }
 
@@ -80,12 +68,8 @@ fn fill_lower(t: &mut [f32; ENTRIES], w: &[i32; 256], at: usize, bits: u32, s: u
     ensures { Written t.old at (2 ^ bits) (λ k. times f (cross s (pos i) (gray bits k)).y) t.new }
 {
     let p = power(bits) as usize;
-    let mut k: usize = 0;
-    while k < p {
-        let c = crossed(s, i as i32, w[p + k]);
-        let v = scale(c.y, f);
-        t[at + k] = v;
-        k += 1;
+    for k in 0..p {
+        t[at + k] = scale(crossed(s, i as i32, w[p + k]).y, f);
     }
 }
 
@@ -95,12 +79,8 @@ fn fill_even(t: &mut [f32; ENTRIES], w: &[i32; 256])
     ensures { Rows 8 3 t.new }
 {
     fill_row(t, w, 0, 1, factor(1));
-    let mut n: u32 = 1;
-    while n < 8 {
-        let at = power(n) as usize;
-        let f = factor(2 * n);
-        fill_row(t, w, at, n, f);
-        n += 1;
+    for n in 1..8 {
+        fill_row(t, w, power(n) as usize, n, factor(2 * n));
     }
 }
 
@@ -123,10 +103,8 @@ fn fill_odd(t: &mut [f32; ENTRIES], w: &[i32; 256])
     requires { Rows 8 3 t.old × GrayRows 8 w.now }
     ensures { Filled t.new }
 {
-    let mut n: u32 = 3;
-    while n < 7 {
+    for n in 3..7 {
         fill_cross(t, w, n);
-        n += 1;
     }
 }
 

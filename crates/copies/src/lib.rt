@@ -21,18 +21,6 @@ fn put(copy: &mut [u8], at: usize, n: u16)
     copy[at + 1] = (n % 256) as u8;
 }
 
-// The plan's bytes, at the start of the copy.
-fn copy_in(plan: &[u8], copy: &mut [u8])
-    requires { length plan.now ≤ length copy.old }
-    ensures { copy.new ≡ sets copy.old 0 plan.now }
-{
-    let mut i: usize = 0;
-    while i < plan.len() {
-        copy[i] = plan[i];
-        i += 1;
-    }
-}
-
 // The new record put at byte `at`.
 fn put_range(copy: &mut [u8], at: usize, first: u16, last: u16)
     requires { at + 8 ≤ length copy.old }
@@ -51,7 +39,7 @@ pub fn extend(plan: &[u8], end: usize, first: u16, last: u16, copy: &mut [u8]) -
     ensures { (take result copy.new ≡ copy_with plan.now first last) × (result ≡ length plan.now + 8) }
 {
     let n = plan.len();
-    copy_in(plan, copy);
+    copy[..n].copy_from_slice(plan);
     put(copy, 8 * end + 2, (n / 8) as u16);
     put_range(copy, n, first, last);
     n + 8

@@ -10,8 +10,8 @@ use borrow.Author.Tests.{ne_eqb}
 use Rattle.counting.specs.Search.{bit, when}
 use Rattle.counting.proofs.Bools.{by_test, and_false}
 use Rattle.rules.specs.declared.Device.{Device}
-use Rattle.rules.specs.declared.Finding.{Finding}
-use Rattle.rules.specs.declared.Finding.TheVariants.{Fine, Ground}
+use Rattle.rules.specs.Refusals.{Finding}
+use Rattle.std.specs.Prelude.{Ok, Err}
 use Rattle.rules.specs.Plan.{Entry, entry, leads, chain_from, is_pilot}
 use Rattle.rules.specs.Grounds.{◌else◌, ground?, bad_form, bad_next, bad_numbers, pilots_max, record_grounds, chain_grounds}
 use Rattle.chains.proofs.Steps.{chain_ends, chain_on, leads_on, leads_up, leads_low}
@@ -24,7 +24,7 @@ use Rattle.copylaws.proofs.Records.{other_record, last_record, new_record}
 
 -- ---- grounds 2 to 5 of an entry with another next index that leads on
 
-four_fine : (a b c t : Bool) (i : ℕ) → (ground? 2 (when a i) else ground? 3 (when b i) else ground? 4 (when c i) else ground? 5 (when t i)) ≡ Fine
+four_fine : (a b c t : Bool) (i : ℕ) → (ground? 2 (when a i) else ground? 3 (when b i) else ground? 4 (when c i) else ground? 5 (when t i)) ≡ Ok tt
     → (a ≡ false) × (c ≡ false) × (t ≡ false)
 four_fine true b c t i g = absurd (not_fine g)
 four_fine false true c t i g = absurd (not_fine g)
@@ -36,15 +36,15 @@ leads_fine : (r : ℕ) (e : Entry) → leads r e.index e.next ≡ true → bad_n
 unfolding bad_next
 leads_fine r e h = ap (λ (t : Bool). not (eqb e.next 0) && not t) h ∙ and_false (not (eqb e.next 0))
 
-pub relinked_fine : (d : Device) (r q np n : ℕ) (e : Entry) → record_grounds d r np e ≡ Fine → leads q e.index n ≡ true → record_grounds d q np (linked n e) ≡ Fine
+pub relinked_fine : (d : Device) (r q np n : ℕ) (e : Entry) → record_grounds d r np e ≡ Ok tt → leads q e.index n ≡ true → record_grounds d q np (linked n e) ≡ Ok tt
 unfolding record_grounds bad_form bad_numbers
 relinked_fine d r q np n e f h =
     let t = four_fine (bad_form e) (bad_next r e) (bad_numbers d e) (is_pilot e && leb pilots_max np) e.index f in
     rw (t.0, leads_fine q (linked n e) h, t.1, t.2) refl
 
-else_fine : (f : Finding) → (f else Fine) ≡ f
-else_fine Fine = refl
-else_fine (Ground n place) = refl
+else_fine : (f : Finding) → (f else Ok tt) ≡ f
+else_fine (Ok tt) = refl
+else_fine (Err r) = refl
 
 -- the new record: only its range can be refused
 pub new_grounds : (d : Device) (r np a b : ℕ) → 0 < r → chain_grounds d (suc r) np (range_entry r a b ∷ []) ≡ ground? 4 (when (bad_numbers d (range_entry r a b)) r)
@@ -64,13 +64,13 @@ module _ (d : Device) (s : List ℕ) (a b : ℕ) (whole : length s % 8 ≡ 0) (i
     pub grounds : chain_grounds d (suc records) np (chain_from (copy_with s a b) (suc records) (suc steps) i) ≡ ground? 4 (when (bad_numbers d new) records)
 
   -- one record more at i: the grounds of it, and of those after it
-  more_grounds : (np : ℕ) (e : Entry) (es : List Entry) (g : Finding) → record_grounds d (suc records) np e ≡ Fine → chain_grounds d (suc records) (np + bit (is_pilot e)) es ≡ g
+  more_grounds : (np : ℕ) (e : Entry) (es : List Entry) (g : Finding) → record_grounds d (suc records) np e ≡ Ok tt → chain_grounds d (suc records) (np + bit (is_pilot e)) es ≡ g
       → chain_grounds d (suc records) np (e ∷ es) ≡ g
   unfolding chain_grounds
   more_grounds np e es g p q = ap (λ (x : Finding). x else chain_grounds d (suc records) (np + bit (is_pilot e)) es) p ∙ q
 
   -- record i leads on to j
-  on_step : (n i np : ℕ) → i < records → (i ≡ last_index s → ⊥) → leads records i (entry s i).next ≡ true → record_grounds d records np (entry s i) ≡ Fine
+  on_step : (n i np : ℕ) → i < records → (i ≡ last_index s → ⊥) → leads records i (entry s i).next ≡ true → record_grounds d records np (entry s i) ≡ Ok tt
       → CopiedFrom n (entry s i).next (np + bit (is_pilot (entry s i))) → CopiedFrom (suc n) i np
   unfolding entry
   on_step n i np h ne e f ih =
@@ -85,7 +85,7 @@ module _ (d : Device) (s : List ℕ) (a b : ℕ) (whole : length s % 8 ≡ 0) (i
       }
 
   -- record i is the last
-  last_step : (n i np : ℕ) → i < records → i ≡ last_index s → leads records i (entry s i).next ≡ false → record_grounds d records np (entry s i) ≡ Fine → CopiedFrom (suc n) i np
+  last_step : (n i np : ℕ) → i < records → i ≡ last_index s → leads records i (entry s i).next ≡ false → record_grounds d records np (entry s i) ≡ Ok tt → CopiedFrom (suc n) i np
   unfolding entry
   last_step n i np h here e f =
       let is : entry (copy_with s a b) i ≡ linked records (entry s i) = rw here (last_record s a b whole inside) in
@@ -101,7 +101,7 @@ module _ (d : Device) (s : List ℕ) (a b : ℕ) (whole : length s % 8 ≡ 0) (i
         grounds = ap (chain_grounds d (suc records) np) step ∙ more_grounds np (linked records (entry s i)) _ _ (relinked_fine d records (suc records) np records (entry s i) f on) (new_grounds d records _ a b (omega arith));
       }
 
-  pub copied_from : (steps i np x : ℕ) → i < records → records ≤ steps + i → chain_grounds d records np (chain_from s records steps i) ≡ Fine → last_of x (chain_from s records steps i) ≡ last_index s
+  pub copied_from : (steps i np x : ℕ) → i < records → records ≤ steps + i → chain_grounds d records np (chain_from s records steps i) ≡ Ok tt → last_of x (chain_from s records steps i) ≡ last_index s
       → CopiedFrom steps i np
   unfolding chain_grounds last_of entry
   copied_from zero i np x h l f g = absurd (omega arith)

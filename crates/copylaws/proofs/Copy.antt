@@ -12,8 +12,8 @@ use borrow.Author.Tests.{le-ltb, lt-leb, eq-eqb}
 use Rattle.counting.specs.Search.{when}
 use Rattle.counting.proofs.Bools.{or_false}
 use Rattle.rules.specs.declared.Device.{Device}
-use Rattle.rules.specs.declared.Finding.{Finding}
-use Rattle.rules.specs.declared.Finding.TheVariants.{Fine}
+use Rattle.rules.specs.Refusals.{Finding}
+use Rattle.std.specs.Prelude.{Ok}
 use Rattle.rules.specs.Plan.{Entry, entry, chain, chain_from, only, is_range, is_pilot, plan_of}
 use Rattle.rules.specs.Bands.{any, covers, excluded}
 use Rattle.rules.specs.Roles.{names}
@@ -29,8 +29,8 @@ use Rattle.copylaws.proofs.Chains.{CopiedFrom, copied_from}
 use Rattle.copylaws.proofs.Ranked.{Also}
 use Rattle.copylaws.proofs.Entries.{only_unlinked, only_append, any_unlinked, any_append}
 
-module _ (d : Device) (s : List ℕ) (a b : ℕ) (fine : grounds1to5 d s ≡ Fine) where
-  two_fine : (ground? 1 (when (bad_length s) 0) ≡ Fine) × (chain_grounds d (length s / 8) 0 (chain s) ≡ Fine)
+module _ (d : Device) (s : List ℕ) (a b : ℕ) (fine : grounds1to5 d s ≡ Ok tt) where
+  two_fine : (ground? 1 (when (bad_length s) 0) ≡ Ok tt) × (chain_grounds d (length s / 8) 0 (chain s) ≡ Ok tt)
   unfolding grounds1to5
   two_fine = both_fine (ground? 1 (when (bad_length s) 0)) (chain_grounds d (length s / 8) 0 (chain s)) fine
 
@@ -116,7 +116,7 @@ module _ (d : Device) (s : List ℕ) (a b : ℕ) (fine : grounds1to5 d s ≡ Fin
   }
 
   -- where the copy is not too long and the range is one of the device, no ground of 1 to 5 holds
-  pub copy_fine : length s + 8 ≤ 4096 → a ≤ b → b < d.subcarriers → grounds1to5 d (copy_with s a b) ≡ Fine
+  pub copy_fine : length s + 8 ≤ 4096 → a ≤ b → b < d.subcarriers → grounds1to5 d (copy_with s a b) ≡ Ok tt
   unfolding bad_numbers
   copy_fine room rise top =
       copy_grounds

@@ -9,7 +9,7 @@ use lib.ListN.{length, take}
 use Rattle.counting.proofs.Bools.{or_false}
 use Rattle.counting.proofs.Lists.{append-nil}
 use Rattle.rules.specs.declared.Device.{Device}
-use Rattle.rules.specs.declared.Finding.TheVariants.{Fine}
+use Rattle.std.specs.Prelude.{Ok}
 use Rattle.rules.specs.Plan.{Entry, leads, chain, chain_from, only, plan_of}
 use Rattle.rules.specs.Bands.{any, excluded}
 use Rattle.rules.specs.Grounds.{grounds1to5}
@@ -29,7 +29,7 @@ of_unlinked : (f : Entry → ℕ) → ((e : Entry) → f (unlinked e) ≡ f e) �
 of_unlinked f h [] = refl
 of_unlinked f h (e ∷ es) = ap₂ (λ (x : ℕ) (xs : List ℕ). x ∷ xs) (h e) (of_unlinked f h es)
 
-module _ (d : Device) (s : List ℕ) (a b : ℕ) (fine : grounds1to5 d s ≡ Fine) where
+module _ (d : Device) (s : List ℕ) (a b : ℕ) (fine : grounds1to5 d s ≡ Ok tt) where
   abbrev copy : List ℕ
   copy = copy_with s a b
 

@@ -3,7 +3,7 @@ use Prim.Native.Nat.{ℕ, zero, suc, ◌<◌}
 use mathlib.Core.Path.{◌≡◌, refl, sym, ap, ◌∙◌}
 use mathlib.Core.Logic.{◌⊎◌, inl, inr}
 use mathlib.Core.Bool.{Bool, true, false, ◌&&◌, true≢false}
-use mathlib.Core.Option.{Option, none, some, get_or}
+use Rattle.std.specs.Prelude.{Option, Some, None, unwrap_or}
 use native.Mathlib.Nat.{not-suc-le-zero, le-suc, le_refl, le_trans}
 use native.Mathlib.Omega.{arith}
 use Rattle.counting.specs.Search.{when, or_else, first, highest, is_none}
@@ -11,8 +11,8 @@ use Rattle.counting.proofs.Bools.{and_left, and_right, by_test}
 use Rattle.counting.proofs.Laws.{below_suc}
 
 none_or : (a b : Option ℕ) → is_none (or_else a b) ≡ (is_none a && is_none b)
-none_or none b = refl
-none_or (some k) b = refl
+none_or None b = refl
+none_or (Some k) b = refl
 
 -- what a test says where k is not found, and where it is
 pub when_none : (b : Bool) (k : ℕ) → is_none (when b k) ≡ true → b ≡ false
@@ -45,14 +45,14 @@ first_found f (suc n) e =
     (λ q. let r = first_found f n q in (r.0, le_trans r.1 (le-suc n), r.2))
 
 -- what is found highest passes
-pub highest_passes : (t : ℕ → Bool) (n : ℕ) → 0 < get_or (highest t n) 0 → t (get_or (highest t n) 0) ≡ true
+pub highest_passes : (t : ℕ → Bool) (n : ℕ) → 0 < unwrap_or (highest t n) 0 → t (unwrap_or (highest t n) 0) ≡ true
 unfolding highest
 highest_passes t zero l = absurd (omega arith)
 highest_passes t (suc n) l = go (t n) refl (highest_passes t n) l
   where
     found : Bool → ℕ
-    found b = get_or (let r = highest t n in or_else (when b n) r) 0
+    found b = unwrap_or (let r = highest t n in or_else (when b n) r) 0
 
-    go : (b : Bool) → t n ≡ b → (0 < get_or (highest t n) 0 → t (get_or (highest t n) 0) ≡ true) → 0 < found b → t (found b) ≡ true
+    go : (b : Bool) → t n ≡ b → (0 < unwrap_or (highest t n) 0 → t (unwrap_or (highest t n) 0) ≡ true) → 0 < found b → t (found b) ≡ true
     go true e ih l = e
     go false e ih l = ih l

@@ -2,7 +2,7 @@
 use mathlib.Core.Path.{◌≡◌, refl, sym, ap, ap₂, ◌∙◌, subst}
 use mathlib.Core.Logic.{◌⊎◌, inl, inr}
 use mathlib.Core.Bool.{Bool, true, false}
-use mathlib.Core.Option.{Option, none, some}
+use Rattle.std.specs.Prelude.{Option, Some, None}
 use mathlib.Core.List.{List, [], ◌++◌}
 use Prim.Native.Nat.{ℕ, zero, suc, ◌+◌, ◌≤◌, ◌<◌, zero-le}
 use native.Mathlib.Nat.{add-zero, zero-add, add-suc, suc-add, not-suc-le-zero, le_refl, le-suc, le_trans, lt_irrefl, eq-or-lt_of_le, le_of_suc-le-suc, le_of_eq}
@@ -91,52 +91,52 @@ count_mono_lt p q x (suc n) l e f h = go (below_suc l) (λ m. count_mono_lt p q 
 
 -- nothing found: no k < n passes
 IsFound : Option ℕ → Type 0
-IsFound none = ⊥
-IsFound (some x) = Unit {0}
+IsFound None = ⊥
+IsFound (Some x) = Unit {0}
 
-some≢none : {k : ℕ} → some k ≡ none → ⊥
+Some≢None : {k : ℕ} → Some k ≡ None → ⊥
 unfolding IsFound
-some≢none e = subst IsFound e tt
+Some≢None e = subst IsFound e tt
 
-when_none : (b : Bool) (k : ℕ) → when b k ≡ none → b ≡ false
-when_none true k e = absurd (some≢none e)
+when_none : (b : Bool) (k : ℕ) → when b k ≡ None → b ≡ false
+when_none true k e = absurd (Some≢None e)
 when_none false k e = refl
 
-both_none : (a b : Option ℕ) → or_else a b ≡ none → (a ≡ none) × (b ≡ none)
-both_none none b e = (refl, e)
-both_none (some k) b e = absurd (some≢none e)
+both_none : (a b : Option ℕ) → or_else a b ≡ None → (a ≡ None) × (b ≡ None)
+both_none None b e = (refl, e)
+both_none (Some k) b e = absurd (Some≢None e)
 
-pub lowest_none : (p : ℕ → Bool) (n : ℕ) → lowest p n ≡ none → (k : ℕ) → k < n → p k ≡ false
+pub lowest_none : (p : ℕ → Bool) (n : ℕ) → lowest p n ≡ None → (k : ℕ) → k < n → p k ≡ false
 unfolding lowest first
 lowest_none p zero e k l = absurd (not-suc-le-zero l)
 lowest_none p (suc n) e k l = go (below_suc l) (both_none (lowest p n) (when (p n) n) e) (λ f. lowest_none p n f k)
   where
-    go : (k ≡ n) ⊎ (k < n) → (lowest p n ≡ none) × (when (p n) n ≡ none) → (lowest p n ≡ none → k < n → p k ≡ false) → p k ≡ false
+    go : (k ≡ n) ⊎ (k < n) → (lowest p n ≡ None) × (when (p n) n ≡ None) → (lowest p n ≡ None → k < n → p k ≡ false) → p k ≡ false
     go (inl r) b ih = ap p r ∙ when_none (p n) n b.1
     go (inr m) b ih = ih b.0 m
 
 -- no k < n passes: nothing is found
-pub none_lowest : (p : ℕ → Bool) (n : ℕ) → ((k : ℕ) → k < n → p k ≡ false) → lowest p n ≡ none
+pub none_lowest : (p : ℕ → Bool) (n : ℕ) → ((k : ℕ) → k < n → p k ≡ false) → lowest p n ≡ None
 unfolding lowest first
 none_lowest p zero h = refl
 none_lowest p (suc n) h = rw (none_lowest p n (λ k l. h k (le_trans l (le-suc n))), h n (le_refl (suc n))) refl
 
 -- what is found below m is found below any n above m
-pub first_stays : (f : ℕ → Option ℕ) (x m n : ℕ) → m ≤ n → first f m ≡ some x → first f n ≡ some x
+pub first_stays : (f : ℕ → Option ℕ) (x m n : ℕ) → m ≤ n → first f m ≡ Some x → first f n ≡ Some x
 unfolding first
-first_stays f x m n l e = le_ind (λ (k : ℕ). first f k ≡ some x) e (λ k _ h. ap (λ (o : Option ℕ). or_else o (f k)) h) n l
+first_stays f x m n l e = le_ind (λ (k : ℕ). first f k ≡ Some x) e (λ k _ h. ap (λ (o : Option ℕ). or_else o (f k)) h) n l
 
 -- k passes, and nothing below it
-pub lowest_here : (p : ℕ → Bool) (k n : ℕ) → k < n → lowest p k ≡ none → p k ≡ true → lowest p n ≡ some k
+pub lowest_here : (p : ℕ → Bool) (k n : ℕ) → k < n → lowest p k ≡ None → p k ≡ true → lowest p n ≡ Some k
 unfolding lowest first
 lowest_here p k n l e t = first_stays (λ j. when (p j) j) k (suc k) n l (λ i. or_else (e i) (when (t i) k))
 
 -- one more, which does not pass
-pub lowest_on : (p : ℕ → Bool) (k : ℕ) → lowest p k ≡ none → p k ≡ false → lowest p (suc k) ≡ none
+pub lowest_on : (p : ℕ → Bool) (k : ℕ) → lowest p k ≡ None → p k ≡ false → lowest p (suc k) ≡ None
 unfolding lowest first
 lowest_on p k e t = λ i. or_else (e i) (when (t i) k)
 
-pub lowest_zero : (p : ℕ → Bool) → lowest p 0 ≡ none
+pub lowest_zero : (p : ℕ → Bool) → lowest p 0 ≡ None
 unfolding lowest first
 lowest_zero p = refl
 

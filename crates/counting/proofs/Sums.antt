@@ -3,7 +3,7 @@ use Prim.Native.Nat.{ℕ, zero, suc, ◌+◌, ◌*◌, ◌≤◌, ◌<◌}
 use mathlib.Core.Path.{◌≡◌, refl, sym, ap, ap₂, ◌∙◌}
 use mathlib.Core.Logic.{◌≢◌, by_cases}
 use mathlib.Core.Bool.{Bool, true, false, not}
-use mathlib.Core.Option.{get_or}
+use Rattle.std.specs.Prelude.{unwrap_or}
 use native.Mathlib.Nat.{not-suc-le-zero, zero-mul, add-zero, add-suc}
 use native.Mathlib.Decide.{dec_lt, ℕ_discrete}
 use native.Mathlib.Omega.{arith}
@@ -124,7 +124,7 @@ find_suc : (t : ℕ → Bool) (n : ℕ) → find t (suc n) ≡ pick (t n) n (fin
 unfolding find highest
 find_suc t n = go (t n)
   where
-    go : (b : Bool) → get_or (let r = highest t n in or_else (when b n) r) 0 ≡ pick b n (get_or (highest t n) 0)
+    go : (b : Bool) → unwrap_or (let r = highest t n in or_else (when b n) r) 0 ≡ pick b n (unwrap_or (highest t n) 0)
     go true = refl
     go false = refl
 

@@ -1,4 +1,3 @@
 pub mod Search
 pub mod Runs
-pub mod Answer
 pub mod Bytes

@@ -7,8 +7,8 @@ abbrev pub All : (ℕ → Bool) → ℕ → ℕ → Type 0
 All e a b = (k : ℕ) → a ≤ k → k < b → e k ≡ true
 
 -- the test holds of none from a to b - 1
-abbrev pub None : (ℕ → Bool) → ℕ → ℕ → Type 0
-None e a b = (k : ℕ) → a ≤ k → k < b → e k ≡ false
+abbrev pub NoneIn : (ℕ → Bool) → ℕ → ℕ → Type 0
+NoneIn e a b = (k : ℕ) → a ≤ k → k < b → e k ≡ false
 
 -- where run i - 1 ends; 0 before the first
 abbrev pub before : List ℕ → ℕ → ℕ
@@ -21,12 +21,12 @@ pub record Run (e : ℕ → Bool) (size : ℕ) (lo hi : List ℕ) (i : ℕ) : Ty
   pub inside : get_or hi i 0 ≤ size
   pub after : 0 < i → before hi i < get_or lo i 0
   pub all : All e (get_or lo i 0) (get_or hi i 0)
-  pub gap : None e (before hi i) (get_or lo i 0)
+  pub gap : NoneIn e (before hi i) (get_or lo i 0)
 
 -- the n runs of a test among the numbers below size
 pub record Runs (e : ℕ → Bool) (size : ℕ) (lo hi : List ℕ) (n : ℕ) : Type 0 where
   pub each : (i : ℕ) → i < n → Run e size lo hi i
-  pub last : None e (before hi n) size
+  pub last : NoneIn e (before hi n) size
 
 -- the numbers of a to b of which the test holds are x from `from` to `to` - 1, in rising order
 pub record Singles (e : ℕ → Bool) (a b : ℕ) (x : List ℕ) (from to : ℕ) : Type 0 where

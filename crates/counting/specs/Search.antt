@@ -1,8 +1,6 @@
 -- Adding up, counting and searching among the numbers below n. A loop that runs k upward from 0 keeps `count p k`, `first f k` or
 -- `those p k`: each is defined by its last step, so that the loop's step is the definition. Assumes nothing.
-use Rattle.std.specs.Prelude.{ℕ, zero, suc, ◌+◌, Bool, true, false, List, [], ◌∷◌, ltb, eqb, get_or}
-use Rattle.std.proofs.Math.Option
-use Rattle.std.proofs.Math.Option.{Option, none, some}
+use Rattle.std.specs.Prelude.{ℕ, zero, suc, ◌+◌, Bool, true, false, List, [], ◌∷◌, ltb, eqb, get_or, Option, Some, None, unwrap_or}
 
 abbrev pub bit : Bool → ℕ
 bit true = 1
@@ -24,16 +22,16 @@ count p n = sum (λ k. bit (p k)) n
 
 -- k, if the test passed
 abbrev pub when : Bool → ℕ → Option ℕ
-when true k = some k
-when false k = none
+when true k = Some k
+when false k = None
 
 abbrev pub or_else : Option ℕ → Option ℕ → Option ℕ
-or_else (some k) b = some k
-or_else none b = b
+or_else (Some k) b = Some k
+or_else None b = b
 
 -- the first of f 0, f 1, .., f (n - 1) that is something. (What a `let` binds is computed only where it is read: here, where nothing was found below n.)
 unfoldable pub first : (ℕ → Option ℕ) → ℕ → Option ℕ
-first f zero = none
+first f zero = None
 first f (suc n) = let r = f n in or_else (first f n) r
 
 -- the lowest k < n that passes
@@ -42,7 +40,7 @@ lowest p n = first (λ k. when (p k) k) n
 
 -- the highest k < n that passes
 unfoldable pub highest : (ℕ → Bool) → ℕ → Option ℕ
-highest p zero = none
+highest p zero = None
 highest p (suc n) = let r = highest p n in or_else (when (p n) n) r
 
 abbrev pub keep : Bool → ℕ → List ℕ → List ℕ
@@ -55,8 +53,8 @@ those p a zero = []
 those p a (suc n) = keep (p a) a (those p (suc a) n)
 
 abbrev pub is_none : Option ℕ → Bool
-is_none none = true
-is_none (some k) = false
+is_none None = true
+is_none (Some k) = false
 
 -- the list f 0, f 1, .., f (n - 1)
 unfoldable pub tabulate {ℓ} : {A : Type ℓ} → (ℕ → A) → ℕ → List A
@@ -69,7 +67,7 @@ select p n c = get_or (those p 0 n) c 0
 
 -- the highest k < n that passes, 0 if none does
 unfoldable pub find : (ℕ → Bool) → ℕ → ℕ
-find p n = Option.get_or (highest p n) 0
+find p n = unwrap_or (highest p n) 0
 
 -- the rank of q among the numbers below n, in the order of rising key: how many come before it
 unfoldable pub rank : (ℕ → ℕ) → ℕ → ℕ → ℕ

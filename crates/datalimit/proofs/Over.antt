@@ -3,7 +3,7 @@ use Prim.Native.Nat.{ℕ, suc, ◌+◌, ◌≤◌, ◌<◌}
 use mathlib.Core.Path.{◌≡◌, sym, ap, ap₂, ◌∙◌}
 use mathlib.Core.Bool.{Bool, true, false, not, ◌&&◌}
 use mathlib.Core.List.{List}
-use mathlib.Core.Option.{none}
+use Rattle.std.specs.Prelude.{None}
 use native.Mathlib.Omega.{arith}
 use lib.Dec.{ltb, leb}
 use lib.ListN.{length, get_or}
@@ -55,7 +55,7 @@ module _ (w kc flag x ds : List ℕ) (n : ℕ) (given : Input w flag x ds n) whe
   number_below p h e = rw given.all (count_lt (is_zero flag) p n h e)
 
   -- as many cells exceed their limits as there are placeholders: no number does
-  pub none_over : count (is_over w kc x) n + length ds ≡ n → lowest (over_at w kc flag n ds) (length ds) ≡ none
+  pub none_over : count (is_over w kc x) n + length ds ≡ n → lowest (over_at w kc flag n ds) (length ds) ≡ None
   none_over e =
       none_lowest (over_at w kc flag n ds) (length ds)
       (λ i h.
@@ -72,7 +72,7 @@ module _ (w kc flag x ds : List ℕ) (n : ℕ) (given : Input w flag x ds n) whe
 
   -- every number is within the one limit that all loads have
   pub all_within : (limit : ℕ) → ((p : ℕ) → p < n → limit_at w (get_or kc p 0) ≡ limit) → count (is_within limit ds) (length ds) ≡ length ds
-      → lowest (over_at w kc flag n ds) (length ds) ≡ none
+      → lowest (over_at w kc flag n ds) (length ds) ≡ None
   unfolding over_at
   all_within limit one e =
       none_lowest (over_at w kc flag n ds) (length ds)
@@ -81,8 +81,8 @@ module _ (w kc flag x ds : List ℕ) (n : ℕ) (given : Input w flag x ds n) whe
       le-ltb _ (get_or ds i 0) (rw (one (select (is_zero flag) n i) s.below) (leb-true (get_or ds i 0) limit (all_pass (is_within limit ds) (length ds) e i h))))
 
   -- the numbers of the cells below p are all within: those of one more, if its cell is
-  pub passed_next : (p : ℕ) → p < n → lowest (over_at w kc flag n ds) (count (is_zero flag) p) ≡ none → (is_zero flag p && is_over w kc x p) ≡ false
-      → lowest (over_at w kc flag n ds) (count (is_zero flag) (p + 1)) ≡ none
+  pub passed_next : (p : ℕ) → p < n → lowest (over_at w kc flag n ds) (count (is_zero flag) p) ≡ None → (is_zero flag p && is_over w kc x p) ≡ false
+      → lowest (over_at w kc flag n ds) (count (is_zero flag) (p + 1)) ≡ None
   passed_next p h before f =
       rw (count_step (is_zero flag) p)
       (by_test (is_zero flag p)

@@ -4,13 +4,12 @@
 
 ghost use Rattle.std.specs.Prelude.{◌≡◌, ◌&&◌, ℕ, ◌≤◌, ◌<◌, ltb, leb, eqb, length, get_or};
 ghost use Rattle.counting.specs.Search.{bit, count, lowest, tabulate, is_zero};
-ghost use Rattle.counting.specs.Answer.{place_of};
 ghost use Rattle.rules.specs.Fits.{capacity};
 ghost use Rattle.rules.specs.Loads.{load_limit, limit_at};
 ghost use Rattle.fill.specs.Flags.{data_cell};
 ghost use Rattle.datalimit.specs.Over.{over_at};
 
-use counting::{Found, wide};
+use counting::wide;
 use profiles::{load_index, table};
 
 // 1 for a number within a limit, else 0.
@@ -26,10 +25,8 @@ fn within(limit: u16, ds: &[u16]) -> u16
     ensures { result ≡ count (λ i. leb (get_or ds.now i 0) limit) (length ds.now) }
 {
     let mut n: u16 = 0;
-    let mut i: usize = 0;
-    while i < ds.len() {
-        n = n + one_if_within(limit, ds[i]);
-        i = i + 1;
+    for x in ds {
+        n += one_if_within(limit, *x);
     }
     n
 }
@@ -57,10 +54,8 @@ fn over_cells(profile: &[u8], kc: &[u16], x: &[u16]) -> u16
 {
     let limits = table::LIMITS;
     let mut n: u16 = 0;
-    let mut p: usize = 0;
-    while p < x.len() {
-        n = n + one_if_over(cell_limit(&limits, profile, kc, p), x[p]);
-        p = p + 1;
+    for (p, cell) in x.iter().enumerate() {
+        n += one_if_over(cell_limit(&limits, profile, kc, p), *cell);
     }
     n
 }
@@ -83,40 +78,38 @@ fn one_if_data(flag: u8) -> usize
 }
 
 // The lowest position of a number that exceeds its load's limit, by looking at one cell of the input symbol after the other.
-fn search_over(profile: &[u8], kc: &[u16], flag: &[u8], x: &[u16], ds: &[u16]) -> Found
+fn search_over(profile: &[u8], kc: &[u16], flag: &[u8], x: &[u16], ds: &[u16]) -> Option<u32>
     requires { (length x.now ≤ capacity) × (length x.now ≤ length kc.now) × (length x.now ≤ length flag.now) × ((p : ℕ) → p < length x.now → get_or kc.now p 0 < length profile.now) × ((k : ℕ) → get_or profile.now k 0 ≤ 14) × (length ds.now ≡ count (is_zero flag.now) (length x.now)) × (x.now ≡ tabulate (data_cell flag.now ds.now) (length x.now)) }
-    ensures { place_of result ≡ lowest (over_at profile.now kc.now flag.now (length x.now) ds.now) (length ds.now) }
+    ensures { result ≡ lowest (over_at profile.now kc.now flag.now (length x.now) ds.now) (length ds.now) }
 {
     let limits = table::LIMITS;
     let mut i: usize = 0;
-    let mut p: usize = 0;
-    while p < x.len() {
+    for (p, cell) in x.iter().enumerate() {
         let limit = cell_limit(&limits, profile, kc, p);
-        if over_data(flag[p], limit, x[p]) {
-            return Found::At(i as u32);
+        if over_data(flag[p], limit, *cell) {
+            return Some(i as u32);
         }
-        i = i + one_if_data(flag[p]);
-        p = p + 1;
+        i += one_if_data(flag[p]);
     }
-    Found::Nothing
+    None
 }
 
 // The lowest position of a number of the data ds that exceeds its load's limit: kc are the subcarriers of the cells, flag the flags of the
 // placeholders, x the input symbol of the data.
-pub fn first_over(profile: &[u8], kc: &[u16], flag: &[u8], x: &[u16], ds: &[u16]) -> Found
+pub fn first_over(profile: &[u8], kc: &[u16], flag: &[u8], x: &[u16], ds: &[u16]) -> Option<u32>
     requires { (length x.now ≤ capacity) × (length x.now ≤ length kc.now) × (length x.now ≤ length flag.now) × ((p : ℕ) → p < length x.now → get_or kc.now p 0 < length profile.now) × ((k : ℕ) → get_or profile.now k 0 ≤ 14) × (length ds.now ≡ count (is_zero flag.now) (length x.now)) × (x.now ≡ tabulate (data_cell flag.now ds.now) (length x.now)) }
-    ensures { place_of result ≡ lowest (over_at profile.now kc.now flag.now (length x.now) ds.now) (length ds.now) }
+    ensures { result ≡ lowest (over_at profile.now kc.now flag.now (length x.now) ds.now) (length ds.now) }
 {
     let range = profiles::load_range(profile);
     if range.low == range.high {
         if range.low <= 14 {
             if wide(within(profiles::limit_of(range.low), ds)) == ds.len() {
-                return Found::Nothing;
+                return None;
             }
         }
     } else {
         if wide(over_cells(profile, kc, x)) + ds.len() == x.len() {
-            return Found::Nothing;
+            return None;
         }
     }
     search_over(profile, kc, flag, x, ds)

@@ -29,15 +29,13 @@ fn pass(emitter: bool, m: usize, store: &mut [u16], cells: &mut [u16]) -> u16
     ensures { Exchanged (end_delay emitter m) store.old cells.old (length cells.old) store.new cells.new (places_before (end_delay emitter m) (length cells.old)) result }
 {
     let n = cells.len();
-    let mut p = least(first_cell(emitter), n);
     let mut at = 0;
     let mut last = 0;
-    while p < n {
+    for p in (first_cell(emitter)..n).step_by(m) {
         let e = least(p + (m - 1), n);
         let passed = exchange::pass_group(emitter, m, p, e, at, last, store, cells);
         at = passed.at;
         last = passed.last;
-        p = least(e + 1, n);
     }
     last
 }
@@ -47,10 +45,8 @@ fn shift(store: &mut [u16], n: usize)
     requires { n ≤ length store.old }
     ensures { store.new ≡ shifted n store.old }
 {
-    let mut k = 0;
-    while k + 1 < n {
-        store[k] = store[k + 1];
-        k += 1;
+    for k in 1..n {
+        store[k - 1] = store[k];
     }
 }
 

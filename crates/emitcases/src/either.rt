@@ -1,5 +1,5 @@
 // Either emitter's entries over the first cells of what they are lent: the first's (crate trials), or the second's (crate figuretrials).
-use rules::{SendAnswer, StartAnswer};
+use rules::{EmitterState, Refusal, RefusedStep};
 use trials::Sending;
 
 // The places that the store needs under an accepted plan, 0 under another.
@@ -17,7 +17,7 @@ pub(crate) fn fresh_emitter(
     phase: u32,
     n: usize,
     store: &mut [u16],
-) -> StartAnswer {
+) -> Result<EmitterState, Refusal> {
     if second {
         return figuretrials::fresh_emitter(plan, phase, n, store);
     }
@@ -33,7 +33,7 @@ pub(crate) fn send(
     store: &mut [u16],
     cells: &[u16],
     symbol: &mut [u16],
-) -> SendAnswer {
+) -> Result<EmitterState, RefusedStep<EmitterState>> {
     if second {
         return figuretrials::send(plan, profile, given, store, cells, symbol);
     }

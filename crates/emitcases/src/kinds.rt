@@ -8,22 +8,14 @@ pub(crate) const STORE: usize = 60000;
 
 pub(crate) const SYMBOL: usize = 4096;
 
-// One less, 0 of 0.
-pub(crate) fn less(n: usize) -> usize {
-    if n == 0 {
-        return 0;
-    }
-    n - 1
-}
-
 // What an emit of a number is given beside the right one, with N_D cells; need is how many places the store needs.
 fn emitting(kind: u8, right: Sending, need: usize) -> Sending {
     let mut given = right;
     match kind {
-        2 | 13 => given.count = less(right.count),
+        2 | 13 => given.count = right.count.saturating_sub(1),
         3 => given.count = std::num::wrapping_add_usize(right.count, 1),
         5 => given.phase = std::num::wrapping_add_u32(right.phase, 128),
-        7 | 21 => given.store = less(need),
+        7 | 21 => given.store = need.saturating_sub(1),
         10 => given.store = need,
         12 => {
             given.count = 0;
@@ -31,16 +23,16 @@ fn emitting(kind: u8, right: Sending, need: usize) -> Sending {
             given.symbol = 4095;
         }
         14 => {
-            given.count = less(right.count);
-            given.store = less(need);
+            given.count = right.count.saturating_sub(1);
+            given.store = need.saturating_sub(1);
         }
         15 => {
-            given.count = less(right.count);
+            given.count = right.count.saturating_sub(1);
             given.symbol = 4095;
         }
         20 => {
             given.phase = std::num::wrapping_add_u32(right.phase, 128);
-            given.store = less(need);
+            given.store = need.saturating_sub(1);
         }
         _ => {}
     }
@@ -57,10 +49,10 @@ fn flushing(kind: u8, right: Sending, need: usize) -> Sending {
         8 => given.symbol = 4095,
         9 => given.symbol = 4097,
         11 => given.phase = 4294967295,
-        16 => given.store = less(need),
+        16 => given.store = need.saturating_sub(1),
         18 => given.store = need,
         19 => {
-            given.store = less(need);
+            given.store = need.saturating_sub(1);
             given.symbol = 4095;
         }
         _ => {}
@@ -92,7 +84,7 @@ pub(crate) fn filled(x: u32, kind: u8, n: usize, cells: &mut [u16]) -> u32 {
     match kind {
         4 => {
             place = n / 2;
-            end = less(n);
+            end = n.saturating_sub(1);
         }
         13 => place = 0,
         15 | 17 | 21 => {

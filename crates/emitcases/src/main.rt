@@ -11,7 +11,7 @@ mod kinds;
 
 use console::Standard;
 use kinds::{STORE, SYMBOL};
-use rules::{EmitterState, SendAnswer, StartAnswer};
+use rules::{EmitterState, Refusal, RefusedStep};
 
 // A run: whether it is the second emitter's, the state for its next step, the generator of data, the checksum, and how many steps were sent
 // and refused.
@@ -38,22 +38,25 @@ const LOAD: u8 = 14;
 fn mixed_counts(plan: &[u8]) -> u32 {
     let mut mix: u32 = 0;
     for j in 0..129u32 {
-        let next = sums::mixed_count(mix, cells::data_count(plan, j));
-        mix = next;
+        mix = sums::mixed_count(mix, cells::data_count(plan, j));
     }
     sums::mixed_count(mix, cells::data_count(plan, 4294967295))
 }
 
 // The run after a step with this answer; refused steps are never given the state that they hand back.
-fn told(run: Run, answer: SendAnswer, symbol: &[u16; ROOM]) -> Run {
+fn told(
+    run: Run,
+    answer: Result<EmitterState, RefusedStep<EmitterState>>,
+    symbol: &[u16; ROOM],
+) -> Run {
     let mut next = run;
     next.sum = sums::mixed_cells(sums::mixed_send(run.sum, answer), symbol, SYMBOL);
     match answer {
-        SendAnswer::Sent(state) => {
+        Ok(state) => {
             next.state = state;
             next.sent = std::num::wrapping_add_u32(run.sent, 1);
         }
-        SendAnswer::Refused(_, _, _) => {
+        Err(_) => {
             next.refused = std::num::wrapping_add_u32(run.refused, 1);
         }
     }
@@ -85,9 +88,8 @@ fn steps(start: Run, plan: &[u8], need: usize, bytes: &[u8], store: &mut [u16; S
     let profile = [LOAD; SYMBOL];
     let mut symbol = [BEFORE; ROOM];
     let mut run = start;
-    for i in 0..bytes.len() {
-        let next = step(run, bytes[i], plan, &profile, need, store, &mut symbol);
-        run = next;
+    for byte in bytes {
+        run = step(run, *byte, plan, &profile, need, store, &mut symbol);
     }
     run
 }
@@ -102,7 +104,7 @@ fn mixed_tight(
     need: usize,
     store: &mut [u16; STORE],
 ) -> u32 {
-    let few = kinds::less(need);
+    let few = need.saturating_sub(1);
     let short = sums::mixed_start(sum, either::fresh_emitter(second, plan, phase, few, store));
     let seen = sums::mixed_cells(short, store, 16);
     sums::mixed_start(
@@ -124,7 +126,7 @@ fn print_run(streams: &mut Standard, run: Run, sum: u32) -> bool {
 // The steps of a case from its fresh start on, and its line; the steps of a refused one are not taken.
 fn started(
     streams: &mut Standard,
-    answer: StartAnswer,
+    answer: Result<EmitterState, Refusal>,
     sum: u32,
     second: bool,
     plan: &[u8],
@@ -133,11 +135,11 @@ fn started(
     store: &mut [u16; STORE],
 ) -> bool {
     match answer {
-        StartAnswer::Refused(number, place) => {
+        Err(refusal) => {
             let end = sums::mixed_cells(sum, store, STORE);
-            console::print_refused(streams, b"emitcases", number, place, end)
+            console::print_refused(streams, b"emitcases", refusal.number, refusal.place, end)
         }
-        StartAnswer::Started(state) => {
+        Ok(state) => {
             let begun = Run {
                 second,
                 state,

@@ -7,7 +7,7 @@ ghost use Rattle.rules.specs.Device.{khz50};
 ghost use Rattle.rules.specs.Steps.{leaves, emit_step, flush_step};
 ghost use Rattle.sending.specs.Sent.{step_by};
 
-use rules::{EmitterState, SendAnswer, Verdict};
+use rules::{EmitterState, RefusedStep};
 
 // An emit or flush step; a flush reads no profile and no input. Where no ground refuses it, the input symbol goes to the places of its cells, and the delayed
 // cells go out on their subcarriers.
@@ -19,7 +19,7 @@ fn send(
     store: &mut [u16],
     input: &[u16],
     symbol: &mut [u16],
-) -> SendAnswer
+) -> Result<EmitterState, RefusedStep<EmitterState>>
     ensures { leaves result store.new symbol.new ≡ step_by khz50 plan.now profile.now flushing state store.old input.now symbol.old }
 {
     let d = rules::khz50_device();
@@ -41,13 +41,13 @@ fn send(
         &mut x,
         false,
     ) {
-        Verdict::Refused(g, place) => SendAnswer::Refused(g, place, state),
-        Verdict::Accepted(n) => {
+        Err(refusal) => Err(RefusedStep { refusal, state }),
+        Ok(n) => {
             let ni = n as usize;
             let m = records::number_at(plan, 6);
             delay::delay(m, store, &mut x[..ni]);
             line::place(d, plan, &marks, &car, &x[..ni], symbol);
-            SendAnswer::Sent(sending::next_state(state))
+            Ok(sending::next_state(state))
         }
     }
 }
@@ -60,14 +60,19 @@ pub fn emit(
     store: &mut [u16],
     input: &[u16],
     symbol: &mut [u16],
-) -> SendAnswer
+) -> Result<EmitterState, RefusedStep<EmitterState>>
     ensures { leaves result store.new symbol.new ≡ emit_step khz50 plan.now profile.now state store.old input.now symbol.old }
 {
     send(plan, profile, false, state, store, input, symbol)
 }
 
 // A flush step: the same with filler in every data cell, and without a profile.
-pub fn flush(plan: &[u8], state: EmitterState, store: &mut [u16], symbol: &mut [u16]) -> SendAnswer
+pub fn flush(
+    plan: &[u8],
+    state: EmitterState,
+    store: &mut [u16],
+    symbol: &mut [u16],
+) -> Result<EmitterState, RefusedStep<EmitterState>>
     ensures { leaves result store.new symbol.new ≡ flush_step khz50 plan.now state store.old symbol.old }
 {
     let no_profile = [0u8; 1];

@@ -116,25 +116,22 @@ fn pass_pairs(
     ensures at { At emitter m b e store.new cells.new result.p result.d result.at × (e ≤ result.p + 1) }
     ensures passed { Passes (end_delay emitter m) from.p store.old cells.old from.at from.last result.p store.new cells.new result.at result.last }
 {
-    let mut p = from.p;
+    let pairs = (e - from.p) / 2;
     let mut d = from.d;
     let mut at = from.at;
     let mut last = from.last;
-    while p + 1 < e {
+    for i in 0..pairs {
         let second = at + d;
         let next = next_delay(emitter, d);
-        let newest = exchange_two(at, second, p, last, store, cells);
-        let after = next_delay(emitter, next);
-        last = newest;
+        last = exchange_two(at, second, from.p + 2 * i, last, store, cells);
         at = second + next;
-        d = after;
-        p += 2;
+        d = next_delay(emitter, next);
     }
     Reached {
-        p: p,
-        d: d,
-        at: at,
-        last: last,
+        p: from.p + 2 * pairs,
+        d,
+        at,
+        last,
     }
 }
 

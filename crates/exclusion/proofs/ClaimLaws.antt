@@ -9,8 +9,7 @@ use Rattle.counting.specs.Search.{bit, count}
 use Rattle.counting.proofs.Bools.{by_test, and_false}
 use Rattle.counting.proofs.Sums.{sum_cong}
 use Rattle.rules.specs.declared.Device.{Device}
-use Rattle.rules.specs.declared.Finding.TheVariants.{Fine}
-use Rattle.rules.specs.declared.Verdict.TheVariants.{Accepted}
+use Rattle.std.specs.Prelude.{Ok}
 use Rattle.rules.specs.Plan.{plan_of}
 use Rattle.rules.specs.Roles.{ranked, ranked_count}
 use Rattle.rules.specs.Grounds.{grounds1to5, grounds1to15, verdict}
@@ -23,7 +22,7 @@ use Rattle.exclusion.specs.Trial.{trial_verdict}
 use Rattle.exclusion.specs.Claims.{CopyClaims, TrialClaims}
 use Rattle.exclusion.proofs.Trials.{trial_copy, trial_full, trial_range, trial_judged, range_above, range_backward}
 
-module _ (d : Device) (s : List ℕ) (a b : ℕ) (fine : grounds1to5 d s ≡ Fine) where
+module _ (d : Device) (s : List ℕ) (a b : ℕ) (fine : grounds1to5 d s ≡ Ok tt) where
   still : (k : ℕ) → ranked d (plan_of (copy_with s a b)) k ≡ (ranked d (plan_of s) k && not (within a b k))
   still k =
       by_test (within a b k)
@@ -48,7 +47,7 @@ module _ (d : Device) (s : List ℕ) (a b : ℕ) (fine : grounds1to5 d s ≡ Fin
   room : length s < 4096 → length s + 8 ≤ 4096
   room l = omega (arith, (sized d s a b fine).whole)
 
-  accepted : (n : ℕ) → trial_verdict d s a b ≡ Accepted n → n ≡ ranked_count d (plan_of (copy_with s a b))
+  accepted : (n : ℕ) → trial_verdict d s a b ≡ Ok n → n ≡ ranked_count d (plan_of (copy_with s a b))
   unfolding verdict
   accepted n e = (accepted_is (grounds1to15 d (copy_with s a b)) n (ranked_count d (plan_of (copy_with s a b))) (sym e ∙ trial_copy d s a b fine)).1
 

@@ -1,9 +1,9 @@
 -- What a planner may believe of a trial (document 02, Req 05): what the copy says, beside the plan, and what is answered of it. Statements
 -- only, of a plan s that no ground of 1 to 5 refuses, on any device. Assumes nothing.
-use Rattle.std.specs.Prelude.{ℕ, ◌/◌, ◌≤◌, ◌<◌, ◌≡◌, not, ◌&&◌, ◌||◌, List, [], ◌∷◌, ◌++◌, map, length}
+use Rattle.std.specs.Prelude.{ℕ, ◌/◌, ◌≤◌, ◌<◌, ◌≡◌, not, ◌&&◌, ◌||◌, List, [], ◌∷◌, ◌++◌, map, length, Ok}
 use Rattle.counting.specs.Search.{count}
 use Rattle.rules.specs.declared.Device.{Device}
-use Rattle.rules.specs.declared.Verdict.TheVariants.{Accepted, Refused}
+use Rattle.rules.specs.Refusals.{refused_by}
 use Rattle.rules.specs.Plan.{chain, plan_of}
 use Rattle.rules.specs.Bands.{excluded}
 use Rattle.rules.specs.Roles.{continuous, ranked, ranked_count}
@@ -33,12 +33,12 @@ pub record CopyClaims (d : Device) (s : List ℕ) (first last : ℕ) : Type 0 wh
 pub record TrialClaims (d : Device) (s : List ℕ) (first last : ℕ) : Type 0 where
   pub copy : CopyClaims d s first last
   -- where accepted, N_I is the number of subcarriers that still have a rank
-  pub accepted : (n : ℕ) → trial_verdict d s first last ≡ Accepted n → n ≡ count (λ k. ranked d (plan_of s) k && not (within first last k)) d.subcarriers
+  pub accepted : (n : ℕ) → trial_verdict d s first last ≡ Ok n → n ≡ count (λ k. ranked d (plan_of s) k && not (within first last k)) d.subcarriers
   -- a full plan has no room for the record
-  pub full : plan_max ≤ length s → trial_verdict d s first last ≡ Refused 1 0
+  pub full : plan_max ≤ length s → trial_verdict d s first last ≡ refused_by 1 0
   -- else a range that ends above the last subcarrier, or begins above its end, is refused at the new record
-  pub above : length s < plan_max → d.subcarriers ≤ last → trial_verdict d s first last ≡ Refused 4 (length s / 8)
-  pub backward : length s < plan_max → last < first → trial_verdict d s first last ≡ Refused 4 (length s / 8)
+  pub above : length s < plan_max → d.subcarriers ≤ last → trial_verdict d s first last ≡ refused_by 4 (length s / 8)
+  pub backward : length s < plan_max → last < first → trial_verdict d s first last ≡ refused_by 4 (length s / 8)
   -- and any other range is judged by 6 to 15
   pub judged : length s < plan_max → first ≤ last → last < d.subcarriers
       → trial_verdict d s first last ≡ answer (grounds6to15 d (plan_of (copy_with s first last))) (ranked_count d (plan_of (copy_with s first last)))

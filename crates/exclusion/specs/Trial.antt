@@ -1,16 +1,14 @@
 -- What one more excluded range would do to a plan (document 02, Req 05). Assumes nothing.
-use Rattle.std.specs.Prelude.{ℕ, ◌+◌, ◌/◌, Bool, ◌||◌, List, ltb, length}
+use Rattle.std.specs.Prelude.{ℕ, ◌+◌, ◌/◌, Bool, ◌||◌, List, ltb, length, Ok, Err}
 use Rattle.counting.specs.Search.{pick, when}
 use Rattle.rules.specs.declared.Device.{Device}
-use Rattle.rules.specs.declared.Finding.TheVariants.{Fine, Ground}
-use Rattle.rules.specs.declared.Verdict.{Verdict}
-use Rattle.rules.specs.declared.Verdict.TheVariants.{Refused}
+use Rattle.rules.specs.Refusals.{Verdict, refused_by}
 use Rattle.rules.specs.Grounds.{◌else◌, ground?, grounds1to5, answer, verdict}
 use Rattle.copies.specs.Copy.{plan_max, copy_with}
 
 -- "A plan refused by 1 to 5 gives that refusal, else the copy's verdict is given, 1 included"
 unfoldable pub trial_verdict : Device → List ℕ → ℕ → ℕ → Verdict
-trial_verdict d s first last = elim (grounds1to5 d s) [ Fine ↦ verdict d (copy_with s first last) | Ground n place ↦ Refused n place ]
+trial_verdict d s first last = elim (grounds1to5 d s) [ Ok _ ↦ verdict d (copy_with s first last) | Err r ↦ Err r ]
 
 -- a record has two bytes for a number
 abbrev pub number_max : ℕ
@@ -26,5 +24,5 @@ unfoldable pub trial_of_numbers : Device → List ℕ → ℕ → ℕ → Verdic
 trial_of_numbers d s first last =
     pick
     (too_large first last)
-    (answer (grounds1to5 d s else ground? 1 (when (ltb plan_max (length s + 8)) 0) else Ground 4 (length s / 8)) 0)
+    (answer (grounds1to5 d s else ground? 1 (when (ltb plan_max (length s + 8)) 0) else refused_by 4 (length s / 8)) 0)
     (trial_verdict d s first last)

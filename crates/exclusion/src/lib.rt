@@ -4,9 +4,8 @@
 // `try_range` is for the crates above that want the copy too.
 #![tactic(auto)]
 
-ghost use Rattle.std.specs.Prelude.{ℕ, min, ◌≤◌, ◌≡◌, List, length};
+ghost use Rattle.std.specs.Prelude.{ℕ, min, ◌≤◌, ◌≡◌, List, length, Ok, Err};
 ghost use Rattle.rules.specs.declared.Device.{Device};
-ghost use Rattle.rules.specs.declared.Finding.TheVariants.{Fine};
 ghost use Rattle.rules.specs.Device.{khz50};
 ghost use Rattle.rules.specs.Fits.{Fits};
 ghost use Rattle.rules.specs.Grounds.{grounds1to5};
@@ -18,13 +17,12 @@ ghost use Rattle.exclusion.specs.Copied.{CopiedIf};
 ghost use Rattle.exclusion.specs.Claims.{TrialClaims};
 
 use copies::COPY_MAX;
-use plan::Chain;
-use rules::{Device, Verdict};
+use rules::{Device, Refusal};
 
 // The verdict of a trial, and the length of the copy.
 #[derive(Clone, Copy)]
 pub struct Trial {
-    pub verdict: Verdict,
+    pub verdict: Result<u32, Refusal>,
     pub length: usize,
 }
 
@@ -42,7 +40,7 @@ fn try_copy(
     rec: &mut [u16; 128],
     copy: &mut [u8],
 ) -> Trial
-    requires { Fits d × (grounds1to5 d plan.now ≡ Fine) × Noted d plan.now np reach.old hot.old pil.old rec.old × (end ≡ last_index plan.now) × (copy_max ≤ length copy.old) }
+    requires { Fits d × (grounds1to5 d plan.now ≡ Ok tt) × Noted d plan.now np reach.old hot.old pil.old rec.old × (end ≡ last_index plan.now) × (copy_max ≤ length copy.old) }
     ensures { (result.verdict ≡ trial_verdict d plan.now first last) × CopiedIf result.verdict result.length d plan.now first last copy.new }
 {
     let mut m = [0u16; 4096];
@@ -71,19 +69,29 @@ pub fn try_range(d: Device, plan: &[u8], first: u16, last: u16, copy: &mut [u8])
     let mut pil = [0u16; 128];
     let mut rec = [0u16; 128];
     match plan::walk_chain(d, plan, 0, 0, &mut reach, &mut hot, &mut pil, &mut rec) {
-        Chain::Bad(g, place) => Trial {
-            verdict: Verdict::Refused(g, place),
+        Err(refusal) => Trial {
+            verdict: Err(refusal),
             length: 0,
         },
-        Chain::Good(np, end) => try_copy(
-            d, plan, first, last, end, np, &mut reach, &mut hot, &mut pil, &mut rec, copy,
+        Ok(chain) => try_copy(
+            d,
+            plan,
+            first,
+            last,
+            chain.last,
+            chain.pilots,
+            &mut reach,
+            &mut hot,
+            &mut pil,
+            &mut rec,
+            copy,
         ),
     }
 }
 
 // What the plan's verdict would be if first to last were excluded too: the refusal by 1 to 5 of the plan itself, else the verdict on the
 // copy.
-pub fn try_exclusion(plan: &[u8], first: u16, last: u16) -> Verdict
+pub fn try_exclusion(plan: &[u8], first: u16, last: u16) -> Result<u32, Refusal>
     ensures { result ≡ trial_verdict khz50 plan.now first last }
 {
     let mut copy = [0u8; COPY_MAX];
@@ -102,7 +110,7 @@ fn held(x: u32) -> u16
 }
 
 // The same for numbers of 32 bits: with one that no record can hold, ground 4 at the new record.
-pub fn try_numbers(plan: &[u8], first: u32, last: u32) -> Verdict
+pub fn try_numbers(plan: &[u8], first: u32, last: u32) -> Result<u32, Refusal>
     ensures { result ≡ trial_of_numbers khz50 plan.now first last }
 {
     try_exclusion(plan, held(first), held(last))
@@ -110,5 +118,5 @@ pub fn try_numbers(plan: &[u8], first: u32, last: u32) -> Verdict
 
 // Every plan that no ground of 1 to 5 refuses, every range, any device: what the copy says, and what is answered of it.
 pub fn trial_claims()
-    ensures { (d : Device) (s : List ℕ) (first last : ℕ) → grounds1to5 d s ≡ Fine → TrialClaims d s first last }
+    ensures { (d : Device) (s : List ℕ) (first last : ℕ) → grounds1to5 d s ≡ Ok tt → TrialClaims d s first last }
 {}

@@ -1,33 +1,32 @@
 -- What no ground of 1 to 15 says of the numbers of a plan: its length, PLC, depth and pilots. Assumes nothing.
 use mathlib.Core.Path.{◌≡◌, refl}
 use mathlib.Core.Bool.{true, false}
-use mathlib.Core.Option.{Option, none, some}
 use mathlib.Core.List.{List, map}
 use Prim.Native.Nat.{ℕ, ◌/◌, ◌≤◌, ◌<◌}
 use native.Mathlib.Omega.{arith}
 use lib.ListN.{length, get_or}
 use Rattle.counting.specs.Search.{when, is_none}
 use Rattle.rules.specs.declared.Device.{Device}
-use Rattle.rules.specs.declared.Finding.TheVariants.{Fine}
+use Rattle.std.specs.Prelude.{Ok, Option, Some, None}
 use Rattle.rules.specs.Plan.{Entry, plan_of, chain, entry, is_plc}
 use Rattle.rules.specs.Grounds.{ground?, bad_length, pilots_max, chain_grounds, grounds1to5, grounds6to15, grounds1to15}
 use Rattle.rules.proofs.Findings.{not_fine, both_fine, when_fine}
 use Rattle.records.proofs.RecordLaws as record-laws
 use Rattle.plan.proofs.NotedLaws as Chain-laws
 
-pub ground_none : (n : ℕ) (o : Option ℕ) → ground? n o ≡ Fine → is_none o ≡ true
-ground_none n none e = refl
-ground_none n (some k) e = absurd (not_fine e)
+pub ground_none : (n : ℕ) (o : Option ℕ) → ground? n o ≡ Ok tt → is_none o ≡ true
+ground_none n None e = refl
+ground_none n (Some k) e = absurd (not_fine e)
 
-module _ (d : Device) (s : List ℕ) (fine : grounds1to15 d s ≡ Fine) where
-  stages : (grounds1to5 d s ≡ Fine) × (grounds6to15 d (plan_of s) ≡ Fine)
+module _ (d : Device) (s : List ℕ) (fine : grounds1to15 d s ≡ Ok tt) where
+  stages : (grounds1to5 d s ≡ Ok tt) × (grounds6to15 d (plan_of s) ≡ Ok tt)
   unfolding grounds1to15
   stages = both_fine (grounds1to5 d s) (grounds6to15 d (plan_of s)) fine
 
-  pub later_fine : grounds6to15 d (plan_of s) ≡ Fine
+  pub later_fine : grounds6to15 d (plan_of s) ≡ Ok tt
   later_fine = stages.1
 
-  chain_stages : (ground? 1 (when (bad_length s) 0) ≡ Fine) × (chain_grounds d (length s / 8) 0 (chain s) ≡ Fine)
+  chain_stages : (ground? 1 (when (bad_length s) 0) ≡ Ok tt) × (chain_grounds d (length s / 8) 0 (chain s) ≡ Ok tt)
   unfolding grounds1to5
   chain_stages = both_fine (ground? 1 (when (bad_length s) 0)) (chain_grounds d (length s / 8) 0 (chain s)) stages.0
 

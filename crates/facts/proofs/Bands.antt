@@ -2,7 +2,6 @@
 use Prim.Native.Nat.{ℕ, suc, ◌+◌, ◌-◌, ◌≤◌, ◌<◌}
 use mathlib.Core.Path.{◌≡◌, refl, sym, ap, ◌∙◌}
 use mathlib.Core.Bool.{Bool, true, false, true≢false}
-use mathlib.Core.Option.{Option, none}
 use mathlib.Core.List.{[]}
 use native.Mathlib.Omega.{arith}
 use lib.Dec.{leb, ltb}
@@ -10,8 +9,8 @@ use borrow.Author.Tests.{leb-true, ltb-true, ltb-false}
 use Rattle.counting.specs.Search.{when, first, is_none}
 use Rattle.counting.proofs.Bools.{and_left}
 use Rattle.rules.specs.declared.Device.{Device}
-use Rattle.rules.specs.declared.Finding.{Finding}
-use Rattle.rules.specs.declared.Finding.TheVariants.{Fine}
+use Rattle.rules.specs.Refusals.{Finding}
+use Rattle.std.specs.Prelude.{Ok, Option, None}
 use Rattle.rules.specs.Plan.{Plan}
 use Rattle.rules.specs.Bands.{active, width, starts_band, next_band, band_end, first_band, excluded_in}
 use Rattle.rules.specs.Grounds.{◌else◌, ground?, outside, around_plc, pilot_clash, narrow_band, no_wide_band, much_excluded, much_in_band, full_window, many_ranked, grounds6to15}
@@ -22,7 +21,7 @@ use Rattle.counting.proofs.Findings.{when_none, when_some, first_passed, first_f
 
 -- grounds 10 and 13 of 6 to 15
 ten_thirteen : (six seven eight nine ten eleven twelve thirteen later : Finding)
-    → (six else seven else eight else nine else ten else eleven else twelve else thirteen else later) ≡ Fine → (ten ≡ Fine) × (thirteen ≡ Fine)
+    → (six else seven else eight else nine else ten else eleven else twelve else thirteen else later) ≡ Ok tt → (ten ≡ Ok tt) × (thirteen ≡ Ok tt)
 ten_thirteen six seven eight nine ten eleven twelve thirteen later e =
     let from-ten = both_fine ten _ (both_fine nine _ (both_fine eight _ (both_fine seven _ (both_fine six _ e).1).1).1).1 in
     (from-ten.0, (both_fine thirteen _ (both_fine twelve _ (both_fine eleven _ from-ten.1).1).1).0)
@@ -43,7 +42,7 @@ module _ (d : Device) (p : Plan) where
   module _ (f : ℕ → ℕ → Option ℕ) where
     -- what f finds at a, if a band starts there
     abbrev at : ℕ → Bool → Option ℕ
-    at a b = elim b [ true ↦ f a (band_end d p a) | false ↦ none ]
+    at a b = elim b [ true ↦ f a (band_end d p a) | false ↦ None ]
 
     -- where f finds nothing, it finds nothing in any band
     bands_passed : is_none (first_band d p f) ≡ true → (a : ℕ) → a < d.subcarriers → starts_band d p a ≡ true → is_none (f a (band_end d p a)) ≡ true
@@ -62,8 +61,8 @@ module _ (d : Device) (p : Plan) where
         go a l true t g = (a, l, t, g)
         go a l false t g = absurd (true≢false g)
 
-  module _ (wide : 1 < d.band_wide) (fine : grounds6to15 d p ≡ Fine) where
-    two_fine : (ground? 10 (when (no_wide_band d p) 0) ≡ Fine) × (ground? 13 (full_window d p d.long_window d.long_max) ≡ Fine)
+  module _ (wide : 1 < d.band_wide) (fine : grounds6to15 d p ≡ Ok tt) where
+    two_fine : (ground? 10 (when (no_wide_band d p) 0) ≡ Ok tt) × (ground? 13 (full_window d p d.long_window d.long_max) ≡ Ok tt)
     unfolding grounds6to15
     two_fine =
         ten_thirteen (ground? 6 (outside d p)) (ground? 7 (around_plc d p)) (ground? 8 (pilot_clash d p [] p.pilots)) (ground? 9 (narrow_band d p)) (ground? 10 (when (no_wide_band d p) 0)) (ground? 11 (when (much_excluded d p) 0))

@@ -8,7 +8,7 @@ use native.Mathlib.Omega.{arith}
 use Rattle.counting.specs.Search.{bit, count}
 use Rattle.counting.proofs.Sums.{sum_cong}
 use Rattle.rules.specs.declared.Device.{Device}
-use Rattle.rules.specs.declared.Finding.TheVariants.{Fine}
+use Rattle.std.specs.Prelude.{Ok}
 use Rattle.rules.specs.Device.{phases}
 use Rattle.rules.specs.Plan.{Plan, plan_of}
 use Rattle.rules.specs.Bands.{excluded, excluded_in}
@@ -36,7 +36,7 @@ few_excluded d p r w =
     ))
     r.windows (r.turns * phases) (omega arith) r.covered
 
-pub some_data : (d : Device) (s : List ℕ) → Roomy d → grounds1to15 d s ≡ Fine → (j : ℕ) → j < phases → 1 ≤ data_count (frame_of d (plan_of s)) j
+pub some_data : (d : Device) (s : List ℕ) → Roomy d → grounds1to15 d s ≡ Ok tt → (j : ℕ) → j < phases → 1 ≤ data_count (frame_of d (plan_of s)) j
 unfolding frame_of
 some_data d s r fine =
     let p : Plan = plan_of s in

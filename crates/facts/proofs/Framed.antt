@@ -8,7 +8,7 @@ use borrow.Author.Tests.{lt-ltb}
 use Rattle.counting.specs.Search.{pick}
 use Rattle.counting.proofs.Laws.{count_le}
 use Rattle.rules.specs.declared.Device.{Device}
-use Rattle.rules.specs.declared.Finding.TheVariants.{Fine}
+use Rattle.std.specs.Prelude.{Ok}
 use Rattle.rules.specs.declared.Role.TheVariants.{Scattered, Data}
 use Rattle.rules.specs.Device.{phases}
 use Rattle.rules.specs.Plan.{Plan, plan_of}
@@ -24,7 +24,7 @@ use Rattle.facts.proofs.Accepted.{depth_in}
 use Rattle.facts.proofs.Scattered.{scattered_once}
 
 -- the depth is at least 1 and at most the phases, and no two cells have the same key
-pub sound : (d : Device) (s : List ℕ) → d.depth_max ≤ phases → grounds1to15 d s ≡ Fine → Sound (frame_of d (plan_of s))
+pub sound : (d : Device) (s : List ℕ) → d.depth_max ≤ phases → grounds1to15 d s ≡ Ok tt → Sound (frame_of d (plan_of s))
 unfolding frame_of
 sound d s h fine = record {
   depth_pos = (depth_in d s fine).0;
@@ -70,6 +70,6 @@ module _ (d : Device) (p : Plan) where
   }
 
 -- each subcarrier is scattered at one phase
-pub counted : (d : Device) (s : List ℕ) → d.depth_max ≤ phases → grounds1to15 d s ≡ Fine → Counts (frame_of d (plan_of s))
+pub counted : (d : Device) (s : List ℕ) → d.depth_max ≤ phases → grounds1to15 d s ≡ Ok tt → Counts (frame_of d (plan_of s))
 unfolding frame_of
 counted d s h fine = counts (frame_of d (plan_of s)) (sound d s h fine) (by_rank d (plan_of s)) (λ k l r. scattered_once d (plan_of s) k)

@@ -8,8 +8,8 @@ use lib.Dec.{ltb}
 use lib.ListN.{length}
 use borrow.Author.Tests.{le-ltb}
 use Rattle.counting.specs.Search.{when}
-use Rattle.rules.specs.declared.Finding.{Finding}
-use Rattle.rules.specs.declared.Finding.TheVariants.{Fine, Ground}
+use Rattle.rules.specs.Refusals.{Finding}
+use Rattle.std.specs.Prelude.{Ok, Err}
 use Rattle.rules.specs.Grounds.{◌else◌, ground?}
 use Rattle.rules.specs.Frame.{Frame}
 use Rattle.rules.specs.Store.{emitter_places}
@@ -21,9 +21,9 @@ use Rattle.figure.specs.Needs.{step_grounds, fresh_grounds}
 not_short : (s : List ℕ) → ltb (length s) 0 ≡ false
 not_short s = le-ltb (length s) 0 (omega arith)
 
-else_none : (f : Finding) → (f else Fine) ≡ f
-else_none Fine = refl
-else_none (Ground n place) = refl
+else_none : (f : Finding) → (f else Ok tt) ≡ f
+else_none (Ok tt) = refl
+else_none (Err r) = refl
 
 module _ (F : Frame) where
   -- a step of the first emitter, and of the second

@@ -2,7 +2,7 @@
 use Rattle.std.specs.Prelude.{ℕ, Bool, List}
 use Rattle.counting.specs.Search.{pick, when}
 use Rattle.rules.specs.declared.Device.{Device}
-use Rattle.rules.specs.declared.Finding.{Finding}
+use Rattle.rules.specs.Refusals.{Finding}
 use Rattle.rules.specs.Grounds.{◌else◌, ground?}
 use Rattle.rules.specs.Frame.{Frame}
 use Rattle.rules.specs.Store.{emitter_places}

@@ -1,15 +1,12 @@
 -- What the second emitter's entries answer and leave, on the literal store of the figure (document 02, request 09): grounds 1 to 15 and 25, then 16, 17
 -- without the store's part, 27, 18 and 19. State, answers and what a step is given are those of the first emitter (crate rules, specs/Steps).
 -- A refused step changes nothing and hands the state back. Assumes nothing.
-use Rattle.std.specs.Prelude.{ℕ, ◌+◌, ◌-◌, ◌*◌, ◌/◌, ◌%◌, List, [], ltb, get_or}
+use Rattle.std.specs.Prelude.{ℕ, ◌+◌, ◌-◌, ◌*◌, ◌/◌, ◌%◌, List, [], ltb, get_or, Ok, Err}
 use Rattle.std.proofs.lemmas.List.Edits.{sets}
 use Rattle.counting.specs.Search.{pick, when, tabulate}
 use Rattle.rules.specs.declared.Device.{Device}
-use Rattle.rules.specs.declared.Finding.{Finding}
-use Rattle.rules.specs.declared.Finding.TheVariants.{Fine, Ground}
+use Rattle.rules.specs.Refusals.{Finding}
 use Rattle.rules.specs.declared.EmitterState.{EmitterState}
-use Rattle.rules.specs.declared.StartAnswer.TheVariants as a-start
-use Rattle.rules.specs.declared.SendAnswer.TheVariants as a-send
 use Rattle.rules.specs.Plan.{plan_of}
 use Rattle.rules.specs.Grounds.{◌else◌, ground?, grounds1to15}
 use Rattle.rules.specs.Frame.{Frame, frame_of, cells, phase_back, Given, flush, symbol, input_cells, line_symbol, filler}
@@ -48,11 +45,11 @@ module _ (F : Frame) where
   sent_symbol e g = line_symbol F (figure_cells F.depth (cells F) e.store (input_cells F e.state.phase g))
 
   unfoldable pub accepted : Emitter → Given → Sending
-  accepted e g = leaves (a-send.Sent (next_state F e.state)) (sent_store e g) (sent_symbol e g)
+  accepted e g = leaves (Ok (next_state F e.state)) (sent_store e g) (sent_symbol e g)
 
   -- a step under an accepted plan
   unfoldable pub frame_step : Emitter → Send → Sending
-  frame_step e a = elim (figure_grounds e a) [ Fine ↦ accepted e a.given | Ground n place ↦ refused e a n place ]
+  frame_step e a = elim (figure_grounds e a) [ Ok _ ↦ accepted e a.given | Err r ↦ refused e a r ]
 
   -- Place i of line r of a fresh literal store at phase j. A line holds J cells of each of the symbols r to 1 steps back, the oldest first: those of cells r,
   -- M + r, 2 * M + r and so on. The symbol b steps back is at phase (phase - b) mod 128, filler in every data cell; its dummies are filler.
@@ -74,14 +71,14 @@ module _ (F : Frame) where
   unfoldable pub frame_start : ℕ → List ℕ → Starting
   frame_start j s =
       elim (figure_start_grounds j s) [
-        | Fine ↦ starts (a-start.Started (record { phase = j })) (fresh_literal j s)
-        | Ground n place ↦ starts (a-start.Refused n place) s
+        | Ok _ ↦ starts (Ok (record { phase = j })) (fresh_literal j s)
+        | Err r ↦ starts (Err r) s
       ]
 
 module _ (d : Device) (s : List ℕ) where
   -- an emit or flush step of any bytes as a plan
   unfoldable pub figure_send_step : Emitter → Send → Sending
-  figure_send_step e a = elim (grounds1to15 d s) [ Fine ↦ frame_step (frame_of d (plan_of s)) e a | Ground n place ↦ refused e a n place ]
+  figure_send_step e a = elim (grounds1to15 d s) [ Ok _ ↦ frame_step (frame_of d (plan_of s)) e a | Err r ↦ refused e a r ]
 
   -- emit: the load profile, the state, the lent literal store, the data and the lent symbol
   unfoldable pub figure_emit_step : List ℕ → EmitterState → List ℕ → List ℕ → List ℕ → Sending
@@ -94,4 +91,4 @@ module _ (d : Device) (s : List ℕ) where
   -- fresh second emitter: the starting phase and the lent literal store
   unfoldable pub figure_start_step : ℕ → List ℕ → Starting
   figure_start_step j store =
-      elim (grounds1to15 d s) [ Fine ↦ frame_start (frame_of d (plan_of s)) j store | Ground n place ↦ starts (a-start.Refused n place) store ]
+      elim (grounds1to15 d s) [ Ok _ ↦ frame_start (frame_of d (plan_of s)) j store | Err r ↦ starts (Err r) store ]

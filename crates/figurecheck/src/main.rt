@@ -16,9 +16,9 @@ ghost use Rattle.trials.specs.Parts.{needed};
 mod pair;
 mod pair_steps;
 
-use console::{Input, Standard};
+use console::Standard;
 use pair::{Pair, SENT, STORE, more};
-use rules::Verdict;
+use pair_steps::StepKind;
 
 // The pair with fresh emitters, if its next symbol is the first of a run.
 fn fresh(
@@ -66,8 +66,9 @@ fn one_symbol(
 ) -> Pair {
     let sum = std::num::wrapping_add_u32(pair.start, pair.t);
     let nd = trials::data_count(plan, sum % 128);
-    let tried = pair_steps::step(streams, pair, sum % 6, nd, plan, first, second);
-    counted(pair_steps::step(streams, tried, pair_steps::RIGHT, nd, plan, first, second))
+    let wrong = StepKind::wrong(sum);
+    let tried = pair_steps::step(streams, pair, wrong, nd, plan, first, second);
+    counted(pair_steps::step(streams, tried, StepKind::Right, nd, plan, first, second))
 }
 
 // The pair after the runs from all starting phases, or after the symbol with the first difference.
@@ -107,8 +108,8 @@ fn turns(plan: &[u8]) -> usize
     ensures { result ≡ needed (J (frame_of khz50 (plan_of plan.now))) (verdict khz50 plan.now) }
 {
     match judge::judge(plan) {
-        Verdict::Accepted(n) => figure::ceiling(n as usize, records::number_at(plan, 6)),
-        Verdict::Refused(_, _) => 0,
+        Ok(n) => figure::ceiling(n as usize, records::number_at(plan, 6)),
+        Err(_) => 0,
     }
 }
 
@@ -141,28 +142,27 @@ fn check_pair(streams: &mut Standard, plan: &[u8], n: u32) {
 // Judges a plan, and runs both emitters under an accepted one.
 fn check_plan(streams: &mut Standard, plan: &[u8]) {
     match judge::judge(plan) {
-        Verdict::Refused(number, place) => {
+        Err(refusal) => {
             console::print_line(
                 streams,
                 b"figurecheck",
                 b"refused # #\n",
-                [number, place, 0, 0, 0, 0, 0],
+                [refusal.number, refusal.place, 0, 0, 0, 0, 0],
             );
         }
-        Verdict::Accepted(n) => check_pair(streams, plan, n),
+        Ok(n) => check_pair(streams, plan, n),
     }
 }
 
 fn main(rt: HostRuntime) {
     let mut streams = console::standard(&rt);
     let mut buf = io::large_buffer();
-    match console::read(&mut streams, &mut buf) {
-        Input::Failed => console::tell_unread(&mut streams, b"figurecheck"),
-        Input::Bytes(n) => {
-            check_plan(&mut streams, &buf[..n]);
-            if n == 65536 {
-                console::read_on(&mut streams, &mut buf);
-            }
-        }
+    let Some(n) = console::read(&mut streams, &mut buf) else {
+        console::tell_unread(&mut streams, b"figurecheck");
+        return;
+    };
+    check_plan(&mut streams, &buf[..n]);
+    if n == 65536 {
+        console::read_on(&mut streams, &mut buf);
     }
 }

@@ -3,7 +3,7 @@ ghost use Rattle.std.specs.Prelude.{◌≡◌, not, length, ◌==◌, slice_inde
 ghost use Rattle.samples.specs.Inputs.{first_of};
 
 use console::Standard;
-use rules::{EmitterState, SendAnswer, StartAnswer};
+use rules::{EmitterState, Refusal, RefusedStep};
 
 // The cells of a store, and of a symbol.
 pub(crate) const STORE: usize = 60000;
@@ -46,10 +46,10 @@ pub(crate) fn more(n: u32) -> u32 {
 }
 
 // The answer with the code of a refusal.
-fn refused(number: u32, place: u32, phase: u32) -> Answer {
+fn refused(refusal: Refusal, phase: u32) -> Answer {
     Answer {
-        code: std::num::wrapping_add_u32(100, number),
-        place,
+        code: std::num::wrapping_add_u32(100, refusal.number),
+        place: refusal.place,
         phase,
     }
 }
@@ -64,18 +64,18 @@ fn sent(state: EmitterState) -> Answer {
 }
 
 // What a fresh start answered.
-pub(crate) fn start_of(answer: StartAnswer) -> Answer {
+pub(crate) fn start_of(answer: Result<EmitterState, Refusal>) -> Answer {
     match answer {
-        StartAnswer::Started(state) => sent(state),
-        StartAnswer::Refused(number, place) => refused(number, place, 0),
+        Ok(state) => sent(state),
+        Err(refusal) => refused(refusal, 0),
     }
 }
 
 // What a step answered.
-pub(crate) fn step_of(answer: SendAnswer) -> Answer {
+pub(crate) fn step_of(answer: Result<EmitterState, RefusedStep<EmitterState>>) -> Answer {
     match answer {
-        SendAnswer::Sent(state) => sent(state),
-        SendAnswer::Refused(number, place, back) => refused(number, place, back.phase),
+        Ok(state) => sent(state),
+        Err(step) => refused(step.refusal, step.state.phase),
     }
 }
 
@@ -163,14 +163,12 @@ pub(crate) fn answered(
 fn first_apart(first: &[u16], second: &[u16]) -> usize
     ensures { result ≡ first_of (λ k. not (slice_index first.now k == slice_index second.now k)) (length first.now) }
 {
-    let mut k: usize = 0;
-    while k < first.len() {
-        if first[k] != samples::at(second, k) {
+    for (k, cell) in first.iter().enumerate() {
+        if *cell != samples::at(second, k) {
             return k;
         }
-        k += 1;
     }
-    k
+    first.len()
 }
 
 // The pair after the two symbols were compared.

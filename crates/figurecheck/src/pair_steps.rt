@@ -3,11 +3,38 @@ use crate::pair::{Pair, SENT, STORE, SYMBOL, answered, compared, step_of};
 use console::Standard;
 use trials::Sending;
 
-// The kind of the right steps; those of the wrong ones are 0 to 5.
-pub(crate) const RIGHT: u32 = 6;
+// The kinds of steps: each wrong one by what is wrong with it, and the right one.
+#[derive(Clone, Copy, PartialEq, Eq)]
+pub(crate) enum StepKind {
+    // A cell less than N_D.
+    CellTooFew,
+    // The cell in the middle is too high.
+    CellTooHigh,
+    // The phase is 128 too high.
+    PhaseTooHigh,
+    // A flush at phase 128.
+    FlushPastLastPhase,
+    // A flush with a symbol of 4,095 cells.
+    FlushShortSymbol,
+    // The store is a cell too short.
+    ShortStore,
+    // Nothing is wrong.
+    Right,
+}
 
-// The kind with stores that are a cell too short.
-const SHORT: u32 = 5;
+impl StepKind {
+    // The wrong kind with a number; there are six, over and over.
+    pub(crate) fn wrong(number: u32) -> StepKind {
+        match number % 6 {
+            0 => StepKind::CellTooFew,
+            1 => StepKind::CellTooHigh,
+            2 => StepKind::PhaseTooHigh,
+            3 => StepKind::FlushPastLastPhase,
+            4 => StepKind::FlushShortSymbol,
+            _ => StepKind::ShortStore,
+        }
+    }
+}
 
 // The load of every subcarrier, and the highest data cell with it.
 const LOAD: u8 = 14;
@@ -25,9 +52,8 @@ fn less(n: usize) -> usize {
     n - 1
 }
 
-// What a step of a kind is given; nd is N_D, and need is what the emitter's store needs. Wrong: with a cell too few, with one too high in the
-// middle, 128 phases on, a flush at phase 128, a flush with a symbol of 4,095 cells, with a store that is a cell too short.
-fn sending(pair: Pair, kind: u32, nd: usize, need: usize) -> Sending {
+// What a step of a kind is given; nd is N_D, and need is what the emitter's store needs.
+fn sending(pair: Pair, kind: StepKind, nd: usize, need: usize) -> Sending {
     let mut given = Sending {
         flush: false,
         phase: pair.phase,
@@ -36,48 +62,48 @@ fn sending(pair: Pair, kind: u32, nd: usize, need: usize) -> Sending {
         symbol: SYMBOL,
     };
     match kind {
-        0 => given.count = less(nd),
-        2 => given.phase = std::num::wrapping_add_u32(pair.phase, 128),
-        3 => {
+        StepKind::CellTooFew => given.count = less(nd),
+        StepKind::PhaseTooHigh => given.phase = std::num::wrapping_add_u32(pair.phase, 128),
+        StepKind::FlushPastLastPhase => {
             given.flush = true;
             given.phase = 128;
         }
-        4 => {
+        StepKind::FlushShortSymbol => {
             given.flush = true;
             given.symbol = 4095;
         }
-        SHORT => given.store = less(need),
-        RIGHT => given.flush = samples::inputs::is_flush(pair.t),
-        _ => {}
+        StepKind::ShortStore => given.store = less(need),
+        StepKind::Right => given.flush = samples::inputs::is_flush(pair.t),
+        StepKind::CellTooHigh => {}
     }
     given
 }
 
 // The code of the first emitter's answer to a kind.
-fn code_of(kind: u32) -> u32 {
+fn code_of(kind: StepKind) -> u32 {
     match kind {
-        0 => 118,
-        1 => 119,
-        2 | 3 => 116,
-        4 | SHORT => 117,
-        _ => SENT,
+        StepKind::CellTooFew => 118,
+        StepKind::CellTooHigh => 119,
+        StepKind::PhaseTooHigh | StepKind::FlushPastLastPhase => 116,
+        StepKind::FlushShortSymbol | StepKind::ShortStore => 117,
+        StepKind::Right => SENT,
     }
 }
 
 // That of the second's: a store that is too short it refuses by 27.
-fn second_code_of(kind: u32) -> u32 {
-    if kind == SHORT {
+fn second_code_of(kind: StepKind) -> u32 {
+    if kind == StepKind::ShortStore {
         return 127;
     }
     code_of(kind)
 }
 
-// Puts the data of the pair's next symbol into the first nd cells; kind 1 has the one in the middle too high.
-fn fill(pair: Pair, kind: u32, nd: usize, cells: &mut [u16]) {
+// Puts the data of the pair's next symbol into the first nd cells, of a kind with a cell too high the one in the middle too high.
+fn fill(pair: Pair, kind: StepKind, nd: usize, cells: &mut [u16]) {
     let limits = [HIGHEST; SYMBOL];
     let seed = samples::inputs::seed(pair.start, pair.t);
     samples::inputs::draw(seed, nd, &limits, cells);
-    if kind == 1 {
+    if kind == StepKind::CellTooHigh {
         samples::swap(cells, nd / 2, 16384);
     }
 }
@@ -86,13 +112,13 @@ fn fill(pair: Pair, kind: u32, nd: usize, cells: &mut [u16]) {
 pub(crate) fn step(
     streams: &mut Standard,
     pair: Pair,
-    kind: u32,
+    kind: StepKind,
     nd: usize,
     plan: &[u8],
     first: &mut [u16; STORE],
     second: &mut [u16; STORE],
 ) -> Pair {
-    if kind == SHORT && pair.first_need == 0 {
+    if kind == StepKind::ShortStore && pair.first_need == 0 {
         return pair;
     }
     let profile = [LOAD; SYMBOL];

@@ -9,22 +9,18 @@ ghost use Rattle.rules.specs.Steps.{starts, leaves};
 ghost use Rattle.figure.specs.Steps.{figure_start_step, figure_send_step, figure_emit_step, figure_flush_step};
 ghost use Rattle.sending.specs.Sent.{given_by, at, giving};
 
-use rules::{EmitterState, SendAnswer, StartAnswer, Verdict};
+use rules::{EmitterState, Refusal, RefusedStep};
 
 // A fresh second emitter at a phase: the lines of the lent literal store filled.
-pub fn fresh_emitter(plan: &[u8], phase: u32, store: &mut [u16]) -> StartAnswer
+pub fn fresh_emitter(plan: &[u8], phase: u32, store: &mut [u16]) -> Result<EmitterState, Refusal>
     ensures { starts result store.new ≡ figure_start_step khz50 plan.now phase store.old }
 {
     let d = rules::khz50_device();
     let mut kc = [0u16; 4096];
-    match startgrounds::admit_emitter(d, plan, phase, store.len(), &mut kc, true) {
-        Verdict::Refused(g, place) => StartAnswer::Refused(g, place),
-        Verdict::Accepted(n) => {
-            let ni = n as usize;
-            figureflushes::fresh_lines(d, plan, phase as usize, &kc[..ni], store);
-            StartAnswer::Started(EmitterState { phase })
-        }
-    }
+    let n = startgrounds::admit_emitter(d, plan, phase, store.len(), &mut kc, true)?;
+    let ni = n as usize;
+    figureflushes::fresh_lines(d, plan, phase as usize, &kc[..ni], store);
+    Ok(EmitterState { phase })
 }
 
 // An emit or flush step; a flush reads no profile and no input. Where no ground refuses it, the input symbol goes through the delay lines, and the
@@ -37,7 +33,7 @@ fn send(
     store: &mut [u16],
     input: &[u16],
     symbol: &mut [u16],
-) -> SendAnswer
+) -> Result<EmitterState, RefusedStep<EmitterState>>
     ensures { leaves result store.new symbol.new ≡ figure_send_step khz50 plan.now (at state store.old) (giving (given_by flushing input.now) profile.now symbol.old) }
 {
     let d = rules::khz50_device();
@@ -59,13 +55,13 @@ fn send(
         &mut x,
         true,
     ) {
-        Verdict::Refused(g, place) => SendAnswer::Refused(g, place, state),
-        Verdict::Accepted(n) => {
+        Err(refusal) => Err(RefusedStep { refusal, state }),
+        Ok(n) => {
             let ni = n as usize;
             let m = records::number_at(plan, 6);
             commutator::pass(m, store, &mut x[..ni]);
             line::place(d, plan, &marks, &car, &x[..ni], symbol);
-            SendAnswer::Sent(sending::next_state(state))
+            Ok(sending::next_state(state))
         }
     }
 }
@@ -78,14 +74,19 @@ pub fn emit(
     store: &mut [u16],
     input: &[u16],
     symbol: &mut [u16],
-) -> SendAnswer
+) -> Result<EmitterState, RefusedStep<EmitterState>>
     ensures { leaves result store.new symbol.new ≡ figure_emit_step khz50 plan.now profile.now state store.old input.now symbol.old }
 {
     send(plan, profile, false, state, store, input, symbol)
 }
 
 // A flush step: the same with filler in every data cell, and without a profile.
-pub fn flush(plan: &[u8], state: EmitterState, store: &mut [u16], symbol: &mut [u16]) -> SendAnswer
+pub fn flush(
+    plan: &[u8],
+    state: EmitterState,
+    store: &mut [u16],
+    symbol: &mut [u16],
+) -> Result<EmitterState, RefusedStep<EmitterState>>
     ensures { leaves result store.new symbol.new ≡ figure_flush_step khz50 plan.now state store.old symbol.old }
 {
     let no_profile = [0u8; 1];

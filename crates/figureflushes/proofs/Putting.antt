@@ -93,6 +93,3 @@ module _ (m J base : ℕ) (kc t : List ℕ) (sized : J ≡ ceiling (length kc) m
             start = refl;
             stored = put_one;
           }
-
-    pub putting_all : length kc ≤ p → store ≡ with_placeholders m J base kc t (length kc)
-    putting_all h = let z : p ≡ length kc = omega (arith, go.within) in rw z at go.stored

@@ -37,22 +37,20 @@ fn put_placeholders(m: usize, base: usize, kc: &[u16], store: &mut [u16])
     ensures { store.new ≡ with_placeholders m (figure.ceiling (length kc.now) m) base kc.now store.old (length kc.now) }
 {
     let j = figure::ceiling(kc.len(), m);
-    let mut p = 0;
     let mut begins = 0;
     let mut line = 0;
     let mut turn = 0;
-    while p < kc.len() {
-        let i = pattern::symbols_until(base, kc[p]);
+    for k in kc {
+        let i = pattern::symbols_until(base, *k);
         put_placeholder(store, begins, turn, j, line, i);
-        p += 1;
         if line + 1 == m {
             begins = 0;
             line = 0;
             turn += 1;
-            continue;
+        } else {
+            begins += line * j;
+            line += 1;
         }
-        begins = begins + line * j;
-        line += 1;
     }
 }
 

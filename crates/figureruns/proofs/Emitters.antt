@@ -11,9 +11,8 @@ use lib.ListN.{length, get_or, replicate}
 use lib.Seq.{length-sets}
 use borrow.Author.Tests.{le-ltb, lt-ltb}
 use Rattle.counting.specs.Search.{when}
-use Rattle.rules.specs.declared.Finding.{Finding}
-use Rattle.rules.specs.declared.Finding.TheVariants.{Fine, Ground}
-use Rattle.rules.specs.declared.SendAnswer.TheVariants as a-send
+use Rattle.rules.specs.Refusals.{refused_step, Finding}
+use Rattle.std.specs.Prelude.{Ok, Err, is_ok}
 use Rattle.rules.specs.Grounds.{◌else◌, ground?}
 use Rattle.rules.specs.Frame.{Frame, cells, delay, next_phase, phase_back, Given, flush, input_cells, line_symbol, filler}
 use Rattle.rules.specs.Store.{emitter_places, fresh_store}
@@ -27,7 +26,7 @@ use Rattle.figure.proofs.Sizes.{enough}
 use Rattle.figure.proofs.Turns.{turn_below, below_times}
 use Rattle.figure.proofs.Fresh as second-fresh
 use Rattle.runs.specs.Results.{send_result}
-use Rattle.runs.specs.Run.{Entries, is_sent, emitter_left, sendings, input, sent, emitter_after}
+use Rattle.runs.specs.Run.{Entries, emitter_left, sendings, input, sent, emitter_after}
 use Rattle.runs.proofs.Results.{same_results, same_accepted, alike_after}
 use Rattle.runs.proofs.Steps.{frame_entries, as_given, FreshIn, fresh_emitter}
 use Rattle.runs.proofs.Emit.{fresh_at, closed_sent, sent_closed}
@@ -80,18 +79,18 @@ module _ (F : Frame) (ok : Sound F) (e g : Emitter) (a : Send) (alike : Alike F 
 
   -- the step that finds f, of either emitter
   first_after : Finding → Sending
-  first_after f = elim f [ Fine ↦ first.accepted F e a.given | Ground n place ↦ refused e a n place ]
+  first_after f = elim f [ Ok _ ↦ first.accepted F e a.given | Err r ↦ refused e a r ]
 
   second_after : Finding → Sending
-  second_after f = elim f [ Fine ↦ second.accepted F g a.given | Ground n place ↦ refused g a n place ]
+  second_after f = elim f [ Ok _ ↦ second.accepted F g a.given | Err r ↦ refused g a r ]
 
   same_after : (f : Finding) → SameStep F (first_after f) (second_after f)
   unfolding first_after first.accepted next_state second_after second.accepted
-  same_after Fine = (
-    λ i. (a-send.Sent (record { phase = next_phase F (alike.state i).phase }), same_symbol i),
+  same_after (Ok tt) = (
+    λ i. (Ok (record { phase = next_phase F (alike.state i).phase }), same_symbol i),
     record { state = λ i. record { phase = next_phase F (alike.state i).phase }; stores = same_store },
   )
-  same_after (Ground n place) = (λ i. (a-send.Refused n place (alike.state i), a.room), alike)
+  same_after (Err r) = (λ i. (refused_step r (alike.state i), a.room), alike)
 
   same_step : SameStep F (first.frame_step F e a) (second.frame_step F g a)
   unfolding first.frame_step first_after second.frame_step second_after
@@ -151,13 +150,13 @@ module _ (F : Frame) (ok : Sound F) (j : ℕ) (e g : Emitter) (fresh : FreshIn F
   unfolding input
   same_inputs steps =
       ap (λ (given : Send → Given). map (λ x. given x.0) (sendings (frame_entries F) e steps)) (λ i a. as_given a.given i)
-      ∙ same_accepted (first.frame_step F) emitter_left send_result (second.frame_step F) emitter_left send_result (Alike F) (same_step F ok) (λ r. is_sent r.0) (λ a r. a.given) e g steps alike
+      ∙ same_accepted (first.frame_step F) emitter_left send_result (second.frame_step F) emitter_left send_result (Alike F) (same_step F ok) (λ r. is_ok r.0) (λ a r. a.given) e g steps alike
       ∙ sym (ap (λ (given : Send → Given). map (λ x. given x.0) (sendings (figure_frame F) g steps)) (λ i a. as_given a.given i))
 
   same_sent : (steps : List Send) → sent (frame_entries F) e steps ≡ sent (figure_frame F) g steps
   unfolding sent
   same_sent steps =
-      same_accepted (first.frame_step F) emitter_left send_result (second.frame_step F) emitter_left send_result (Alike F) (same_step F ok) (λ r. is_sent r.0) (λ a r. r.1) e g steps alike
+      same_accepted (first.frame_step F) emitter_left send_result (second.frame_step F) emitter_left send_result (Alike F) (same_step F ok) (λ r. is_ok r.0) (λ a r. r.1) e g steps alike
 
   pub emitters_alike : SameSent (frame_entries F) (figure_frame F) e g
   emitters_alike = record {

@@ -1,13 +1,13 @@
 -- From a fresh start the second emitter does what the first does (document 02, request 09). Runs are those of crate runs. Statements only.
 -- Assumes nothing.
-use Rattle.std.specs.Prelude.{ℕ, ◌-◌, ◌*◌, ◌/◌, ◌≤◌, ◌<◌, ◌≡◌, true, List, length, replicate}
+use Rattle.std.specs.Prelude.{ℕ, ◌-◌, ◌*◌, ◌/◌, ◌≤◌, ◌<◌, ◌≡◌, true, List, length, replicate, is_ok}
 use Rattle.rules.specs.declared.Device.{Device}
 use Rattle.rules.specs.Plan.{plan_of}
 use Rattle.rules.specs.Frame.{Frame, frame_of, cells, filler}
 use Rattle.rules.specs.Steps.{Emitter, Send, Sending, Starting}
 use Rattle.figure.specs.Figure.{thrown_away}
 use Rattle.figure.specs.Steps.{J, literal_places, figure_send_step, figure_start_step}
-use Rattle.runs.specs.Run.{Entries, cell_entries, emitter_left, input, sent, emitter_after, is_started, Fresh}
+use Rattle.runs.specs.Run.{Entries, cell_entries, emitter_left, input, sent, emitter_after, Fresh}
 use Rattle.runs.specs.Results.{results, send_result}
 
 -- the entries E with another emitter: its fresh start, and its emit or flush step
@@ -48,7 +48,7 @@ pub record SameEmitters (F : Frame) (E G : Entries) : Type 0 where
   -- the lengths of the delay lines add up to J * M * (M - 1) / 2
   pub lengths : literal_places F ≡ J F * F.depth * (F.depth - 1) / 2
   -- and no fresh start of the second emitter, at a phase below 128 and in so many cells, is refused
-  pub started : (j : ℕ) (lent : List ℕ) → j < F.phases → literal_places F ≤ length lent → is_started (G.start j lent).answer ≡ true
+  pub started : (j : ℕ) (lent : List ℕ) → j < F.phases → literal_places F ≤ length lent → is_ok (G.start j lent).answer ≡ true
 
 -- the claim, for the device d and a plan's bytes s
 abbrev pub SameAsFigure : Device → List ℕ → Type 0

@@ -3,13 +3,12 @@
 // is the theorem.
 #![tactic(auto)]
 
-ghost use Rattle.std.specs.Prelude.{ℕ, ◌≡◌, List};
-ghost use Rattle.rules.specs.declared.Verdict.TheVariants.{Accepted};
+ghost use Rattle.std.specs.Prelude.{ℕ, ◌≡◌, List, Ok};
 ghost use Rattle.rules.specs.Device.{khz50};
 ghost use Rattle.rules.specs.Grounds.{verdict};
 ghost use Rattle.figureruns.specs.Same.{SameAsFigure};
 
 // Every accepted plan: from a fresh start each step of the second emitter has the result of the first's.
 pub fn same_as_figure()
-    ensures { (s : List ℕ) (n : ℕ) → verdict khz50 s ≡ Accepted n → SameAsFigure khz50 s }
+    ensures { (s : List ℕ) (n : ℕ) → verdict khz50 s ≡ Ok n → SameAsFigure khz50 s }
 {}

@@ -12,7 +12,7 @@ ghost use Rattle.figure.specs.Steps.{literal_places};
 ghost use Rattle.trials.specs.Parts.{needed};
 ghost use Rattle.figuretrials.specs.Parts.{send_part, start_part};
 
-use rules::{EmitterState, SendAnswer, StartAnswer, Verdict};
+use rules::{EmitterState, Refusal, RefusedStep};
 use trials::Sending;
 
 // The places that a literal store needs under an accepted plan, 0 under another.
@@ -20,8 +20,8 @@ pub fn literal_need(plan: &[u8]) -> usize
     ensures { result ≡ needed (literal_places (frame_of khz50 (plan_of plan.now))) (verdict khz50 plan.now) }
 {
     match judge::judge(plan) {
-        Verdict::Accepted(n) => figure::literal_places(records::number_at(plan, 6), n as usize),
-        Verdict::Refused(_, _) => 0,
+        Ok(n) => figure::literal_places(records::number_at(plan, 6), n as usize),
+        Err(_) => 0,
     }
 }
 
@@ -33,7 +33,7 @@ pub fn send(
     store: &mut [u16],
     cells: &[u16],
     symbol: &mut [u16],
-) -> SendAnswer
+) -> Result<EmitterState, RefusedStep<EmitterState>>
     ensures { leaves result store.new symbol.new ≡ send_part plan.now profile.now given store.old cells.now symbol.old }
 {
     let state = EmitterState { phase: given.phase };
@@ -54,7 +54,12 @@ pub fn send(
 }
 
 // A fresh second emitter in the first n cells of the store.
-pub fn fresh_emitter(plan: &[u8], phase: u32, n: usize, store: &mut [u16]) -> StartAnswer
+pub fn fresh_emitter(
+    plan: &[u8],
+    phase: u32,
+    n: usize,
+    store: &mut [u16],
+) -> Result<EmitterState, Refusal>
     ensures { starts result store.new ≡ start_part plan.now phase n store.old }
 {
     let places = trials::at_most(n, store);

@@ -19,29 +19,24 @@ pub fn all_data(flag: &[u8], p: usize) -> bool
     ensures { result ≡ all_data flag.now p 16 }
 {
     let mut held: u8 = 0;
-    let mut i: usize = 0;
-    while i < 16 {
-        held = held | flag[p + i];
-        i = i + 1;
+    for f in &flag[p..p + 16] {
+        held |= *f;
     }
     held == 0
 }
 
-// The eight numbers of x from place a on go to y from place b on. All are read before any is stored, so that they are moved as one.
+// The eight numbers of x from place a on go to y from place b on. All are read before any is stored, so that they are moved as one;
+// `copy_from_slice` would first ask whether x and y overlap.
 fn copy_eight(x: &[u16], a: usize, y: &mut [u16], b: usize)
     requires { (a + 8 ≤ length x.now) × (b + 8 ≤ length y.old) }
     ensures { y.new ≡ sets y.old b (tabulate (λ i. get_or x.now (a + i) 0) 8) }
 {
     let mut eight = [0u16; 8];
-    let mut i: usize = 0;
-    while i < 8 {
+    for i in 0..8 {
         eight[i] = x[a + i];
-        i = i + 1;
     }
-    let mut j: usize = 0;
-    while j < 8 {
+    for j in 0..8 {
         y[b + j] = eight[j];
-        j = j + 1;
     }
 }
 
@@ -61,15 +56,13 @@ fn fill_cells(cells: &mut [u16], flag: &[u8], ds: &[u16], p: usize, k: usize, d:
     ensures filled { cells.new ≡ sets cells.old p (tabulate (λ i. data_cell flag.now ds.now (p + i)) k) }
 {
     let mut used = d;
-    let mut i: usize = 0;
-    while i < k {
+    for i in 0..k {
         if flag[p + i] != 0 {
             cells[p + i] = PLACEHOLDER;
         } else {
             cells[p + i] = ds[used];
-            used = used + 1;
+            used += 1;
         }
-        i = i + 1;
     }
     used
 }
@@ -80,19 +73,18 @@ pub fn fill_data(cells: &mut [u16], flag: &[u8], ds: &[u16])
     ensures { cells.new ≡ tabulate (data_cell flag.now ds.now) (length cells.old) }
 {
     let n = cells.len();
-    let mut p: usize = 0;
+    let blocks = n / 16;
     let mut d: usize = 0;
-    while p + 16 <= n {
+    for b in 0..blocks {
+        let p = 16 * b;
         if all_data(flag, p) {
             copy_block(ds, d, cells, p);
-            d = d + 16;
+            d += 16;
         } else {
-            let used = fill_cells(cells, flag, ds, p, 16, d);
-            d = used;
+            d = fill_cells(cells, flag, ds, p, 16, d);
         }
-        p = p + 16;
     }
-    fill_cells(cells, flag, ds, p, n - p, d);
+    fill_cells(cells, flag, ds, 16 * blocks, n - 16 * blocks, d);
 }
 
 // The input symbol of a flush.
@@ -100,14 +92,7 @@ pub fn fill_filler(cells: &mut [u16], flag: &[u8])
     requires { length cells.old ≤ length flag.now }
     ensures { cells.new ≡ tabulate (filler_cell flag.now) (length cells.old) }
 {
-    let n = cells.len();
-    let mut p: usize = 0;
-    while p < n {
-        if flag[p] != 0 {
-            cells[p] = PLACEHOLDER;
-        } else {
-            cells[p] = FILLER;
-        }
-        p = p + 1;
+    for (p, cell) in cells.iter_mut().enumerate() {
+        *cell = if flag[p] != 0 { PLACEHOLDER } else { FILLER };
     }
 }

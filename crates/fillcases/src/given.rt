@@ -63,8 +63,8 @@ fn load_of(index: u32) -> u8 {
 pub(crate) fn make_profile(head: Head, profile: &mut [u8; PROFILE]) {
     let step = head.step % 11;
     let mut index = head.turn % 11;
-    for k in 0..PROFILE {
-        profile[k] = load_of(index);
+    for load in profile.iter_mut() {
+        *load = load_of(index);
         index = (index + step) % 11;
     }
 }
@@ -80,10 +80,9 @@ pub(crate) fn make_stream(seed: u32, stream: &mut [u8; STREAM]) {
         return;
     }
     let mut x = seed;
-    for i in 0..STREAM {
-        let next = drawn(x);
-        x = next;
-        stream[i] = (next % 256) as u8;
+    for byte in stream.iter_mut() {
+        x = drawn(x);
+        *byte = (x % 256) as u8;
     }
 }
 

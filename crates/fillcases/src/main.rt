@@ -11,9 +11,7 @@ mod given;
 
 use console::Standard;
 use given::{Act, Head, PROFILE, STREAM, changed};
-use rules::{
-    CountAnswer, EmitterState, ListenAnswer, ReceiveAnswer, ReceiverState, SendAnswer, StartAnswer,
-};
+use rules::{EmitterState, Heard, ReceiverState, Refusal, RefusedStep};
 use trials::{Receiving, Sending};
 
 // The cells of a store, and of data and symbol.
@@ -43,37 +41,37 @@ fn more(n: u32) -> u32 {
     std::num::wrapping_add_u32(n, 1)
 }
 
-// A byte as a number.
-fn wide(x: u8) -> u32 {
-    x as u32
-}
-
 // The checksum with bytes more.
 fn mixed_bytes(sum: u32, bytes: &[u8]) -> u32 {
     let mut mix = sum;
     for byte in bytes {
-        let next = sums::mixed(mix, wide(*byte));
-        mix = next;
+        mix = sums::mixed(mix, u32::from(*byte));
     }
     mix
 }
 
 // The run after filling, or the way back, with this answer.
-fn counted(run: Run, answer: CountAnswer) -> Run {
+fn counted(run: Run, answer: Result<u32, Refusal>) -> Run {
     let mut next = run;
     next.sum = sums::mixed_count(run.sum, answer);
     match answer {
-        CountAnswer::Count(n) => {
+        Ok(n) => {
             next.accepted = more(run.accepted);
             next.bits = std::num::wrapping_add_u32(run.bits, n);
         }
-        CountAnswer::Refused(_, _) => next.refused = more(run.refused),
+        Err(_) => next.refused = more(run.refused),
     }
     next
 }
 
 // The answer of filling the first cells from the first bytes.
-fn filled(act: Act, plan: &[u8], profile: &[u8], stream: &[u8], data: &mut [u16]) -> CountAnswer {
+fn filled(
+    act: Act,
+    plan: &[u8],
+    profile: &[u8],
+    stream: &[u8],
+    data: &mut [u16],
+) -> Result<u32, Refusal> {
     let loads = console::at_most(act.profile as usize, profile);
     let bytes = console::at_most(act.room as usize, stream);
     let n = trials::at_most(act.cells as usize, data);
@@ -106,7 +104,13 @@ fn fill(
 }
 
 // The answer of the way back of the first cells into the first bytes.
-fn unfilled(act: Act, plan: &[u8], profile: &[u8], cells: &[u16], back: &mut [u8]) -> CountAnswer {
+fn unfilled(
+    act: Act,
+    plan: &[u8],
+    profile: &[u8],
+    cells: &[u16],
+    back: &mut [u8],
+) -> Result<u32, Refusal> {
     let loads = console::at_most(act.profile as usize, profile);
     let n = trials::at_most(act.cells as usize, cells);
     let bytes = console::at_most(act.room as usize, back);
@@ -142,15 +146,15 @@ fn take_back(
 }
 
 // The run after a send with this answer; a refused one is never given the state that it hands back.
-fn sent_with(run: Run, answer: SendAnswer) -> Run {
+fn sent_with(run: Run, answer: Result<EmitterState, RefusedStep<EmitterState>>) -> Run {
     let mut next = run;
     next.sum = sums::mixed_send(run.sum, answer);
     match answer {
-        SendAnswer::Sent(state) => {
+        Ok(state) => {
             next.emitter = state;
             next.accepted = more(run.accepted);
         }
-        SendAnswer::Refused(_, _, _) => next.refused = more(run.refused),
+        Err(_) => next.refused = more(run.refused),
     }
     next
 }
@@ -164,7 +168,7 @@ fn sent(
     store: &mut [u16; STORE],
     data: &[u16; SYMBOL],
     line: &mut [u16; SYMBOL],
-) -> SendAnswer {
+) -> Result<EmitterState, RefusedStep<EmitterState>> {
     let loads = console::at_most(act.profile as usize, profile);
     trials::send(plan, &profile[..loads], step, store, data, line)
 }
@@ -199,19 +203,15 @@ fn send(
 }
 
 // The run after a receive with this answer; a refused one is never given the state that it hands back.
-fn received(run: Run, answer: ReceiveAnswer) -> Run {
+fn received(run: Run, answer: Result<Heard<ReceiverState>, RefusedStep<ReceiverState>>) -> Run {
     let mut next = run;
     next.sum = sums::mixed_receive(run.sum, answer);
     match answer {
-        ReceiveAnswer::Warming(state) => {
+        Ok(Heard::Warming(state) | Heard::Data(state, _)) => {
             next.receiver = state;
             next.accepted = more(run.accepted);
         }
-        ReceiveAnswer::Data(state, _) => {
-            next.receiver = state;
-            next.accepted = more(run.accepted);
-        }
-        ReceiveAnswer::Refused(_, _, _) => next.refused = more(run.refused),
+        Err(_) => next.refused = more(run.refused),
     }
     next
 }
@@ -225,7 +225,7 @@ fn heard(
     store: &mut [u16; STORE],
     line: &[u16; SYMBOL],
     handed: &mut [u16; SYMBOL],
-) -> ReceiveAnswer {
+) -> Result<Heard<ReceiverState>, RefusedStep<ReceiverState>> {
     let loads = console::at_most(act.profile as usize, profile);
     trials::receive(plan, &profile[..loads], step, store, line, handed)
 }
@@ -297,18 +297,12 @@ fn acts(
 
 // A fresh emitter; the starting phase where it is refused.
 fn fresh_emitter(plan: &[u8], phase: u32, store: &mut [u16; STORE]) -> EmitterState {
-    match trials::fresh_emitter(plan, phase, STORE, store) {
-        StartAnswer::Started(state) => state,
-        StartAnswer::Refused(_, _) => EmitterState { phase },
-    }
+    trials::fresh_emitter(plan, phase, STORE, store).unwrap_or(EmitterState { phase })
 }
 
 // A fresh receiver; the starting phase, and nothing heard, where it is refused.
 fn fresh_receiver(plan: &[u8], phase: u32, store: &mut [u16; STORE]) -> ReceiverState {
-    match trials::fresh_receiver(plan, phase, STORE, store) {
-        ListenAnswer::Started(state) => state,
-        ListenAnswer::Refused(_, _) => ReceiverState { phase, heard: 0 },
-    }
+    trials::fresh_receiver(plan, phase, STORE, store).unwrap_or(ReceiverState { phase, heard: 0 })
 }
 
 // The run of a case whose plan is read.

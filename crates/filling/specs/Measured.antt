@@ -1,11 +1,8 @@
 -- The grounds of filling and of the way back, before 19, and what is known once none of them holds. Assumes nothing.
-use Rattle.std.specs.Prelude.{ℕ, ◌+◌, ◌*◌, ◌≤◌, ◌<◌, ◌≡◌, List, ltb, length, get_or, take}
+use Rattle.std.specs.Prelude.{ℕ, ◌+◌, ◌*◌, ◌≤◌, ◌<◌, ◌≡◌, List, ltb, length, get_or, take, Ok, Err}
 use Rattle.counting.specs.Search.{lowest}
 use Rattle.rules.specs.declared.Device.{Device}
-use Rattle.rules.specs.declared.Finding.{Finding}
-use Rattle.rules.specs.declared.Finding.TheVariants.{Fine, Ground}
-use Rattle.rules.specs.declared.CountAnswer.{CountAnswer}
-use Rattle.rules.specs.declared.CountAnswer.TheVariants.{Count, Refused}
+use Rattle.rules.specs.Refusals.{Finding, CountAnswer}
 use Rattle.rules.specs.Plan.{plan_of}
 use Rattle.rules.specs.Grounds.{◌else◌, ground?, grounds1to15}
 use Rattle.rules.specs.Frame.{Frame, frame_of, data_count}
@@ -15,8 +12,8 @@ use Rattle.rules.specs.Filling.{Filling, fills, bit_count, fill_grounds}
 
 -- the count where nothing was found, or the ground that was
 abbrev pub count_or : Finding → ℕ → CountAnswer
-count_or Fine n = Count n
-count_or (Ground g place) n = Refused g place
+count_or (Ok tt) n = Ok n
+count_or (Err r) n = Err r
 
 -- the answer to filling m cells at phase j from a stream of n bytes, starting at bit a: the plan s, the profile w
 unfoldable pub measure : Device → List ℕ → List ℕ → ℕ → ℕ → ℕ → ℕ → CountAnswer
@@ -26,8 +23,8 @@ measure d s w j m n a = count_or (grounds1to15 d s else fill_grounds (frame_of d
 unfoldable pub put_back : List ℕ → List ℕ → ℕ → List ℕ → ℕ → Filling
 put_back ls ds need stream a =
     elim (ground? 19 (lowest (λ i. ltb (load_limit (get_or ls i 0)) (get_or ds i 0)) (length ds))) [
-      | Fine ↦ fills (Count need) (unfilled_into ls ds stream a)
-      | Ground n place ↦ fills (Refused n place) stream
+      | Ok _ ↦ fills (Ok need) (unfilled_into ls ds stream a)
+      | Err r ↦ fills (Err r) stream
     ]
 
 -- There are m data cells, the first m places hold their loads, none above 14, and the stream has their bits from bit a on, if there are any.
@@ -39,5 +36,5 @@ pub record Measured (F : Frame) (w : List ℕ) (j m n a : ℕ) (loads : List ℕ
 
 -- the same, where no ground was found
 abbrev pub MeasuredIf : CountAnswer → Frame → List ℕ → ℕ → ℕ → ℕ → ℕ → List ℕ → Type 0
-MeasuredIf (Count need) F w j m n a loads = Measured F w j m n a loads
-MeasuredIf (Refused g place) F w j m n a loads = Unit {0}
+MeasuredIf (Ok need) F w j m n a loads = Measured F w j m n a loads
+MeasuredIf (Err r) F w j m n a loads = Unit {0}

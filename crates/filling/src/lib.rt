@@ -3,8 +3,7 @@
 // entries over two-byte cells.
 #![tactic(auto)]
 
-ghost use Rattle.std.specs.Prelude.{◌≡◌, ℕ, ◌+◌, ◌*◌, ◌≤◌, ◌<◌, length, get_or};
-ghost use Rattle.rules.specs.declared.Finding.TheVariants.{Fine};
+ghost use Rattle.std.specs.Prelude.{◌≡◌, ℕ, ◌+◌, ◌*◌, ◌≤◌, ◌<◌, length, get_or, Ok, Err};
 ghost use Rattle.rules.specs.Device.{khz50, phases};
 ghost use Rattle.rules.specs.Fits.{Fits, capacity};
 ghost use Rattle.rules.specs.Plan.{plan_of};
@@ -16,8 +15,7 @@ ghost use Rattle.steps.specs.Ready.{Ready};
 ghost use Rattle.filling.specs.Measured as measured;
 ghost use Rattle.filling.specs.Measured.{MeasuredIf, put_back};
 
-use counting::Found;
-use rules::{CountAnswer, Device, Finding, Verdict};
+use rules::{Device, Refusal};
 
 // Phases are 0 to 127.
 const PHASES: usize = 128;
@@ -34,8 +32,8 @@ fn measure_at(
     bytes: usize,
     start: usize,
     loads: &mut [u16],
-) -> CountAnswer
-    requires { Ready d plan.now n marks.now × (ground25 d.subcarriers profile.now ≡ Fine) × (j < phases) × (capacity ≤ length loads.old) }
+) -> Result<u32, Refusal>
+    requires { Ready d plan.now n marks.now × (ground25 d.subcarriers profile.now ≡ Ok tt) × (j < phases) × (capacity ≤ length loads.old) }
     ensures answer { result ≡ measured.measure d plan.now profile.now j number bytes start }
     ensures made { MeasuredIf result (frame_of d (plan_of plan.now)) profile.now j number bytes start loads.new }
 {
@@ -45,13 +43,19 @@ fn measure_at(
     let mut flag = [0u8; 4096];
     let nd = spots::prepare(d, plan, marks, m, j, &mut car, &mut kc[..n], &mut flag[..n]);
     if number != nd {
-        return CountAnswer::Refused(18, 0);
+        return Err(Refusal {
+            number: 18,
+            place: 0,
+        });
     }
     let need = dataloads::take_loads(d, plan, profile, j, nd, &kc, &flag, &mut car[..n], loads);
     if bits::lacks_bits(bytes, start, need) {
-        return CountAnswer::Refused(26, 0);
+        return Err(Refusal {
+            number: 26,
+            place: 0,
+        });
     }
-    CountAnswer::Count(need as u32)
+    Ok(need as u32)
 }
 
 // Grounds 1 to 15, 25, 16, 18 and 26 of `number` cells at a phase, and a stream of so many bytes from bit `start` on. Where none holds, the
@@ -65,27 +69,24 @@ pub fn measure(
     bytes: usize,
     start: usize,
     loads: &mut [u16],
-) -> CountAnswer
+) -> Result<u32, Refusal>
     requires { Fits d × (d.depth_max ≤ phases) × (capacity ≤ length loads.old) }
     ensures answer { result ≡ measured.measure d plan.now profile.now phase number bytes start }
     ensures made { MeasuredIf result (frame_of d (plan_of plan.now)) profile.now phase number bytes start loads.new }
 {
     let mut marks = [0u16; 4096];
-    match verdicts::study(d, plan, &mut marks) {
-        Verdict::Refused(g, place) => CountAnswer::Refused(g, place),
-        Verdict::Accepted(n) => {
-            if let Finding::Ground(g, place) = profiles::profile_ground(d, profile) {
-                return CountAnswer::Refused(g, place);
-            }
-            let j = phase as usize;
-            if PHASES <= j {
-                return CountAnswer::Refused(16, 0);
-            }
-            measure_at(
-                d, plan, &marks, n as usize, profile, j, number, bytes, start, loads,
-            )
-        }
+    let n = verdicts::study(d, plan, &mut marks)?;
+    profiles::profile_ground(d, profile)?;
+    let j = phase as usize;
+    if PHASES <= j {
+        return Err(Refusal {
+            number: 16,
+            place: 0,
+        });
     }
+    measure_at(
+        d, plan, &marks, n as usize, profile, j, number, bytes, start, loads,
+    )
 }
 
 // Where the bits start, or 0 where none are taken: a start past the end matters only if there are any.
@@ -103,15 +104,18 @@ pub fn put_back(
     need: u32,
     start: usize,
     stream: &mut [u8],
-) -> CountAnswer
+) -> Result<u32, Refusal>
     requires { (length loads.now ≡ length ds.now) × (length ds.now ≤ capacity) × ((c : ℕ) → c < length loads.now → get_or loads.now c 0 ≤ 14) × (need ≡ total loads.now) × (0 < need → start + need ≤ length stream.old * 8) }
     ensures { fills result stream.new ≡ put_back loads.now ds.now need stream.old start }
 {
-    if let Found::At(i) = dataloads::first_over(loads, ds) {
-        return CountAnswer::Refused(19, i);
+    if let Some(i) = dataloads::first_over(loads, ds) {
+        return Err(Refusal {
+            number: 19,
+            place: i,
+        });
     }
     bitunfill::unfill_into(loads, ds, need as usize, stream, from_bit(start, need));
-    CountAnswer::Count(need)
+    Ok(need)
 }
 
 // Fills a data symbol at a phase from a bit stream in bytes, starting at a bit; the answer is how many bits it took.
@@ -122,25 +126,21 @@ pub fn fill_symbol(
     stream: &[u8],
     start: usize,
     input: &mut [u16],
-) -> CountAnswer
+) -> Result<u32, Refusal>
     ensures { fills result input.new ≡ fill_step khz50 plan.now profile.now phase stream.now start input.old }
 {
     let d = rules::khz50_device();
     let n = input.len();
     let mut loads = [0u16; 4096];
-    match measure(d, plan, profile, phase, n, stream.len(), start, &mut loads) {
-        CountAnswer::Refused(g, place) => CountAnswer::Refused(g, place),
-        CountAnswer::Count(need) => {
-            bitfill::fill_from(
-                &loads[..n],
-                need as usize,
-                stream,
-                from_bit(start, need),
-                input,
-            );
-            CountAnswer::Count(need)
-        }
-    }
+    let need = measure(d, plan, profile, phase, n, stream.len(), start, &mut loads)?;
+    bitfill::fill_from(
+        &loads[..n],
+        need as usize,
+        stream,
+        from_bit(start, need),
+        input,
+    );
+    Ok(need)
 }
 
 // The way back: puts the bits of a data symbol at a phase into a bit stream in bytes, from a bit on; other bits stay. The answer is how many
@@ -152,14 +152,12 @@ pub fn unfill_symbol(
     input: &[u16],
     start: usize,
     stream: &mut [u8],
-) -> CountAnswer
+) -> Result<u32, Refusal>
     ensures { fills result stream.new ≡ unfill_step khz50 plan.now profile.now phase input.now start stream.old }
 {
     let d = rules::khz50_device();
     let n = input.len();
     let mut loads = [0u16; 4096];
-    match measure(d, plan, profile, phase, n, stream.len(), start, &mut loads) {
-        CountAnswer::Refused(g, place) => CountAnswer::Refused(g, place),
-        CountAnswer::Count(need) => { put_back(&loads[..n], input, need, start, stream) }
-    }
+    let need = measure(d, plan, profile, phase, n, stream.len(), start, &mut loads)?;
+    put_back(&loads[..n], input, need, start, stream)
 }

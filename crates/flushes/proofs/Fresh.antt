@@ -8,13 +8,13 @@ use native.Mathlib.Nat.{add-zero, add-suc, suc-add, zero-add, mod-lt, mod-add-mo
 use native.Mathlib.Decide.{dec_lt, ℕ_discrete}
 use native.Mathlib.Omega.{arith}
 use lib.Dec.{eqb}
-use lib.ListN.{length, get_or, set, take, replicate, length-replicate, get_or-replicate}
+use lib.ListN.{length, get_or, set, replicate, length-replicate, get_or-replicate}
 use lib.Seq.{sets, length-sets, get_or-set_same, get_or-set_other, ext_get_or}
 use borrow.Author.Tests.{lt-ltb, le-ltb, eq-eqb, ne_eqb}
 use Rattle.counting.specs.Search.{pick, count, tabulate}
 use Rattle.counting.proofs.Bools.{by_test}
 use Rattle.counting.proofs.Laws.{count_lt}
-use Rattle.counting.proofs.Lists.{length_tabulate, get_d_tabulate, tabulate_cong, get_d_sets_before, get_or-sets_after, get_or-sets_in, get_or-sets_0, sets_snoc}
+use Rattle.counting.proofs.Lists.{length_tabulate, get_d_tabulate, tabulate_cong, get_d_sets_before, get_or-sets_after, get_or-sets_in, get_or-sets_0}
 use Rattle.rules.specs.declared.Device.{Device}
 use Rattle.rules.specs.Device.{phases}
 use Rattle.rules.specs.Plan.{plan_of}
@@ -33,12 +33,6 @@ use Rattle.flushes.specs.Placeholders.{with_placeholder, with_placeholders}
 use Rattle.flushes.proofs.Putting.{length_with}
 
 -- ---- filler
-
--- one more cell of the number v
-pub same_next : (s : List ℕ) (n v i : ℕ) → i < n → set (sets s 0 (take i (replicate n v))) i v ≡ sets s 0 (take (suc i) (replicate n v))
-same_next s n v i h =
-    sym (λ k. set (sets s 0 (take i (replicate n v))) (zero-add i k) (get_or-replicate n i v 0 h k))
-    ∙ sets_snoc s 0 (replicate n v) i (omega (arith, length-replicate n v))
 
 -- a receiver's store: all its places
 pub all_filler : (F : Frame) (s : List ℕ) (n : ℕ) → n ≡ receiver_places F → sets s 0 (replicate n filler) ≡ filler_store F s

@@ -27,11 +27,7 @@ pub fn put_filler(store: &mut [u16], n: usize)
     requires { n ≤ length store.old }
     ensures { store.new ≡ sets store.old 0 (replicate n filler) }
 {
-    let mut i = 0;
-    while i < n {
-        store[i] = FILLER;
-        i += 1;
-    }
+    store[..n].fill(FILLER);
 }
 
 // The delay of the next cell, at depth m.
@@ -58,16 +54,13 @@ fn put_placeholders(m: usize, base: usize, kc: &[u16], store: &mut [u16])
     requires { (0 < m) × (m ≤ capacity) × (length kc.now ≤ capacity) × (places_before (emitter_delay m) (length kc.now) ≤ length store.old) }
     ensures { store.new ≡ with_placeholders m base kc.now store.old (length kc.now) }
 {
-    let mut p = 0;
     let mut at = 0;
     let mut delay = 0;
-    while p < kc.len() {
-        let i = pattern::symbols_until(base, kc[p]);
+    for k in kc {
+        let i = pattern::symbols_until(base, *k);
         put_placeholder(store, at, delay, i);
-        at = at + delay;
-        let next = next_delay(delay, m);
-        delay = next;
-        p += 1;
+        at += delay;
+        delay = next_delay(delay, m);
     }
 }
 

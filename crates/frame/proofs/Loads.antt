@@ -1,12 +1,12 @@
 -- The loads of the data cells of an input symbol. Assumes nothing.
 use Prim.Native.Nat.{ℕ, ◌≤◌, ◌<◌}
-use mathlib.Core.Path.{◌≡◌, sym, ap, ◌∙◌}
+use mathlib.Core.Path.{◌≡◌}
 use mathlib.Core.List.{List}
 use native.Mathlib.Omega.{arith}
 use lib.ListN.{length, get_or}
 use Rattle.counting.specs.Search.{select}
 use Rattle.counting.proofs.Lists.{length_tabulate, get_d_tabulate, tabulate_cong}
-use Rattle.rules.specs.declared.Finding.TheVariants.{Fine}
+use Rattle.std.specs.Prelude.{Ok}
 use Rattle.rules.specs.Frame.{Frame, cells, spot, is_data, data_count, line_cells, data_of}
 use Rattle.rules.specs.Loads.{ground25, cell_load, data_loads}
 use Rattle.rules.proofs.Loads.{loaded}
@@ -28,5 +28,5 @@ module _ (F : Frame) (w : List ℕ) (j : ℕ) where
   load_at c h = get_d_tabulate _ (data_count F j) 0 c h
 
   -- none is above 14
-  pub loads_small : ground25 F.width w ≡ Fine → (c : ℕ) → c < length (data_loads F w j) → get_or (data_loads F w j) c 0 ≤ 14
+  pub loads_small : ground25 F.width w ≡ Ok tt → (c : ℕ) → c < length (data_loads F w j) → get_or (data_loads F w j) c 0 ≤ 14
   loads_small fine c h = rw (load_at c (omega (arith, length_loads))) ((loaded F.width w fine).small _)

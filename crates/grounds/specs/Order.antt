@@ -1,7 +1,7 @@
 -- The last grounds in checking order, from each of 9, 11 and 13 on: what the functions of this crate answer. Assumes nothing.
 use Rattle.counting.specs.Search.{when}
 use Rattle.rules.specs.declared.Device.{Device}
-use Rattle.rules.specs.declared.Finding.{Finding}
+use Rattle.rules.specs.Refusals.{Finding}
 use Rattle.rules.specs.Plan.{Plan}
 use Rattle.rules.specs.Grounds.{◌else◌, ground?, narrow_band, no_wide_band, much_excluded, much_in_band, full_window}
 use Rattle.ranked.specs.Ground15.{ground15}

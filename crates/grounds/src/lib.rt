@@ -11,8 +11,7 @@ ghost use Rattle.bands.specs.BandList.{EdgeRuns, BandList};
 ghost use Rattle.marks.specs.Marked.{Marked};
 ghost use Rattle.grounds.specs.Order.{grounds13to15, grounds11to15, grounds9to15};
 
-use counting::Found;
-use rules::{Device, Verdict};
+use rules::{Device, Refusal};
 
 // Grounds 13 to 15.
 fn grounds_13_to_15(
@@ -24,24 +23,17 @@ fn grounds_13_to_15(
     c: &[u16; 256],
     x: &[u16; 4096],
     bands: usize,
-) -> Verdict
+) -> Result<u32, Refusal>
     requires { Fits d × Marked d (plan_of plan.now) m.now × BandList d (plan_of plan.now) a.now b.now c.now x.now bands × (bands < 256) }
     ensures { result ≡ answer (grounds13to15 d (plan_of plan.now)) (ranked_count d (plan_of plan.now)) }
 {
-    if let Found::At(k) = windows::first_window(
-        d,
-        plan,
-        a,
-        b,
-        c,
-        x,
-        bands,
-        d.long_window,
-        d.long_max,
-    ) {
-        return Verdict::Refused(13, k);
+    if let Some(k) = windows::first_window(d, plan, a, b, c, x, bands, d.long_window, d.long_max) {
+        return Err(Refusal {
+            number: 13,
+            place: k,
+        });
     }
-    if let Found::At(k) = windows::first_window(
+    if let Some(k) = windows::first_window(
         d,
         plan,
         a,
@@ -52,7 +44,10 @@ fn grounds_13_to_15(
         d.short_window,
         d.short_max,
     ) {
-        return Verdict::Refused(14, k);
+        return Err(Refusal {
+            number: 14,
+            place: k,
+        });
     }
     ranked::ground_15(d, plan, m)
 }
@@ -70,15 +65,21 @@ fn grounds_11_to_15(
     c: &[u16; 256],
     x: &[u16; 4096],
     bands: usize,
-) -> Verdict
+) -> Result<u32, Refusal>
     requires { Fits d × EdgeRuns d (plan_of plan.now) lo.now hi.now n × Marked d (plan_of plan.now) m.now × BandList d (plan_of plan.now) a.now b.now c.now x.now bands × (bands < 256) }
     ensures { result ≡ answer (grounds11to15 d (plan_of plan.now)) (ranked_count d (plan_of plan.now)) }
 {
     if span::much(d, plan, lo, hi, n) {
-        return Verdict::Refused(11, 0);
+        return Err(Refusal {
+            number: 11,
+            place: 0,
+        });
     }
-    if let Found::At(k) = limits::first_much(d, plan, a, b, c, x, bands) {
-        return Verdict::Refused(12, k);
+    if let Some(k) = limits::first_much(d, plan, a, b, c, x, bands) {
+        return Err(Refusal {
+            number: 12,
+            place: k,
+        });
     }
     grounds_13_to_15(d, plan, m, a, b, c, x, bands)
 }
@@ -96,15 +97,21 @@ fn band_grounds(
     c: &[u16; 256],
     x: &[u16; 4096],
     bands: usize,
-) -> Verdict
+) -> Result<u32, Refusal>
     requires { Fits d × EdgeRuns d (plan_of plan.now) lo.now hi.now n × Marked d (plan_of plan.now) m.now × BandList d (plan_of plan.now) a.now b.now c.now x.now bands × (bands < 256) }
     ensures { result ≡ answer (grounds9to15 d (plan_of plan.now)) (ranked_count d (plan_of plan.now)) }
 {
-    if let Found::At(k) = limits::first_narrow(d, plan, a, b, c, x, bands, d.band_min) {
-        return Verdict::Refused(9, k);
+    if let Some(k) = limits::first_narrow(d, plan, a, b, c, x, bands, d.band_min) {
+        return Err(Refusal {
+            number: 9,
+            place: k,
+        });
     }
-    if let Found::Nothing = limits::first_wide(d, plan, a, b, c, x, bands, d.band_wide) {
-        return Verdict::Refused(10, 0);
+    if let None = limits::first_wide(d, plan, a, b, c, x, bands, d.band_wide) {
+        return Err(Refusal {
+            number: 10,
+            place: 0,
+        });
     }
     grounds_11_to_15(d, plan, lo, hi, n, m, a, b, c, x, bands)
 }
@@ -117,7 +124,7 @@ pub fn grounds_9_to_15(
     hi: &[u16],
     n: usize,
     m: &[u16; 4096],
-) -> Verdict
+) -> Result<u32, Refusal>
     requires { Fits d × EdgeRuns d (plan_of plan.now) lo.now hi.now n × Marked d (plan_of plan.now) m.now }
     ensures { result ≡ answer (grounds9to15 d (plan_of plan.now)) (ranked_count d (plan_of plan.now)) }
 {

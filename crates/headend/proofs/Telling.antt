@@ -3,17 +3,12 @@ use Prim.Native.Nat.{ℕ}
 use mathlib.Core.Path.{◌≡◌, ap}
 use mathlib.Core.List.{List}
 use lib.Ieee.{Float}
-use Rattle.rules.specs.declared.StartAnswer.{StartAnswer}
-use Rattle.rules.specs.declared.ListenAnswer.{ListenAnswer}
-use Rattle.rules.specs.declared.SendAnswer.{SendAnswer}
-use Rattle.rules.specs.declared.ReceiveAnswer.{ReceiveAnswer}
+use Rattle.rules.specs.Refusals.{CountAnswer, StartAnswer, ListenAnswer, SendAnswer, ReceiveAnswer}
 use Rattle.rules.specs.Steps.{Starting, starts, Sending, leaves}
 use Rattle.rules.specs.Receive.{Listening, listens, Receiving, hears}
-use Rattle.rules.specs.declared.CountAnswer.{CountAnswer}
 use Rattle.rules.specs.Filling.{Filling, fills}
 use Rattle.bytelamp.specs.ByteLamp.{ByteListing, leaves_list, ByteHearing, leaves_lamp}
-use Rattle.modulator.specs.declared.ModulateAnswer.{ModulateAnswer}
-use Rattle.modulator.specs.Symbols.{Modulating, modulates}
+use Rattle.modulator.specs.Symbols.{ModulateAnswer, Modulating, modulates}
 use Rattle.answerbytes.specs.declared.Told.{Told}
 use Rattle.answerbytes.specs.Layout.{written}
 use Rattle.answers.specs.Answer.{told_start, told_listen, told_send, told_receive, told_count, told_modulate}

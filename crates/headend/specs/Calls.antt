@@ -16,7 +16,7 @@ use Rattle.modulator.specs.Symbols.{Modulating}
 use Rattle.bytemodulate.specs.ByteSymbols.{modulate_bytes}
 use Rattle.answerbytes.specs.declared.Told.{Told}
 use Rattle.answerbytes.specs.Layout.{short, written}
-use Rattle.answers.specs.Answer.{told_verdict, told_role, told_why, told_count, told_start, told_listen, told_send, told_receive, told_modulate}
+use Rattle.answers.specs.Answer.{told_role, told_why, told_count, told_start, told_listen, told_send, told_receive, told_modulate}
 
 -- what a call returns, and what it leaves in the answer buffer
 pub record Said : Type 0 where
@@ -99,11 +99,11 @@ lamp_told r a = says_lamp (told_count r.answer).number r.counts r.lights (writte
 
 module _ (d : Device) (s : List ℕ) where
   unfoldable pub judge_call : List ℕ → Said
-  judge_call a = telling a (told_verdict (verdict d s))
+  judge_call a = telling a (told_count (verdict d s))
 
   -- the first and the last number of the range
   unfoldable pub try_call : ℕ → ℕ → List ℕ → Said
-  try_call first last a = telling a (told_verdict (trial_of_numbers d s first last))
+  try_call first last a = telling a (told_count (trial_of_numbers d s first last))
 
   -- the subcarrier and the phase
   unfoldable pub role_call : ℕ → ℕ → List ℕ → Said

@@ -19,7 +19,7 @@ pub fn headend_judge(plan: &[u8], answer: &mut [u8]) -> u32
     if answer.len() < ANSWER {
         return 21;
     }
-    answerbytes::tell(answer, answers::told_verdict(judge::judge(plan)))
+    answerbytes::tell(answer, answers::told_count(judge::judge(plan)))
 }
 
 // What one more excluded range would do to a plan.
@@ -31,7 +31,7 @@ pub fn headend_try(plan: &[u8], first: u32, last: u32, answer: &mut [u8]) -> u32
     }
     answerbytes::tell(
         answer,
-        answers::told_verdict(exclusion::try_numbers(plan, first, last)),
+        answers::told_count(exclusion::try_numbers(plan, first, last)),
     )
 }
 

@@ -11,14 +11,13 @@ use borrow.Author.Tests.{ne_eqb, lt-ltb, le-ltb}
 use Rattle.counting.specs.Search.{bit, tabulate}
 use Rattle.counting.proofs.Lists.{length_tabulate, get_d_tabulate}
 use Rattle.rules.specs.declared.Device.{Device}
-use Rattle.rules.specs.declared.Finding.{Finding}
-use Rattle.rules.specs.declared.Finding.TheVariants.{Fine, Ground}
-use Rattle.rules.specs.declared.CountAnswer.{CountAnswer}
-use Rattle.rules.specs.declared.CountAnswer.TheVariants.{Count, Refused}
+use Rattle.rules.specs.declared.Refusal.{Refusal}
+use Rattle.rules.specs.Refusals.{Finding, CountAnswer, refusal}
+use Rattle.std.specs.Prelude.{Ok, Err}
 use Rattle.rules.specs.Fits.{Fits}
 use Rattle.rules.specs.Plan.{plan_of}
 use Rattle.rules.specs.Grounds.{grounds1to15}
-use Rattle.rules.proofs.Findings.{by_finding}
+use Rattle.rules.proofs.Findings.{by_finding, not_fine}
 use Rattle.verdicts.proofs.Verdicts.{no_ground}
 use Rattle.pilots.specs.Pilots.{pilots_most, continuous_pilots}
 use Rattle.pilots.proofs.Numbers.{few}
@@ -27,7 +26,7 @@ use Rattle.lamprecord.proofs.Afresh.{length_record, fresh_record_lem, next_recor
 use Rattle.lampgrounds.specs.Steps.{Hearing, leaves_record, shows, no_lights, lamp_finding, lamp_hears, lamp_step}
 use Rattle.lampgrounds.proofs.Opened.{finding_fine, finding_17}
 use Rattle.lampgrounds.proofs.Heard.{step_refused, step_fine}
-use Rattle.lamp.specs.Run.{is_heard, LampState, after_one, after_all, lamp_run}
+use Rattle.lamp.specs.Run.{LampState, after_one, after_all, lamp_run}
 use Rattle.lamp.specs.Claims.{StepClaims, RunClaims, LampClaims}
 
 -- ---- any record and any symbol
@@ -35,23 +34,23 @@ use Rattle.lamp.specs.Claims.{StepClaims, RunClaims, LampClaims}
 module _ (d : Device) (s r : List ℕ) where
   -- the answer, from what was found
   answer_of : Finding → CountAnswer
-  answer_of f = elim f [ Fine ↦ Count (length (continuous_pilots d (plan_of s))) | Ground n place ↦ Refused n place ]
+  answer_of f = elim f [ Ok _ ↦ Ok (length (continuous_pilots d (plan_of s))) | Err r ↦ Err r ]
 
   answer_is : (y : List ℕ) → (lamp_step d s r y).answer.answer ≡ answer_of (lamp_finding d s r (length y))
   unfolding answer_of lamp_hears
   answer_is y =
       by_finding (lamp_finding d s r (length y))
       (λ e. ap (λ (x : Hearing). x.answer.answer) (sym (step_fine d s r y e)) ∙ sym (ap answer_of e))
-      (λ n place e. ap (λ (x : Hearing). x.answer.answer) (sym (step_refused d s r y n place e)) ∙ sym (ap answer_of e))
+      (λ n place e. ap (λ (x : Hearing). x.answer.answer) (sym (step_refused d s r y (refusal n place) e)) ∙ sym (ap answer_of e))
 
-  kept : (y : List ℕ) (n place : ℕ) → (lamp_step d s r y).answer.answer ≡ Refused n place → (lamp_step d s r y).counts ≡ r
-  kept y n place h =
+  kept : (y : List ℕ) (a : Refusal) → (lamp_step d s r y).answer.answer ≡ Err a → (lamp_step d s r y).counts ≡ r
+  kept y a h =
       by_finding (lamp_finding d s r (length y))
       (λ e. absurd (not_refused (sym (ap answer_of e) ∙ sym (answer_is y) ∙ h)))
-      (λ g at e. ap (λ (x : Hearing). x.counts) (sym (step_refused d s r y g at e)))
+      (λ g at e. ap (λ (x : Hearing). x.counts) (sym (step_refused d s r y (refusal g at) e)))
     where
-      not_refused : answer_of Fine ≡ Refused n place → ⊥
-      not_refused z = unfold answer_of in (let y : ◌≡◌ {A = ℕ} 1 0 = ap (λ (a : CountAnswer). bit (is_heard a)) z in omega arith)
+      not_refused : answer_of (Ok tt) ≡ Err a → ⊥
+      not_refused z = unfold answer_of in (not_fine (sym z))
 
 step_claims : (d : Device) (s : List ℕ) → StepClaims (lamp_step d s)
 step_claims d s = record {
@@ -61,7 +60,7 @@ step_claims d s = record {
 
 -- ---- runs of an accepted plan
 
-module _ (d : Device) (fits : Fits d) (s : List ℕ) (fine : grounds1to15 d s ≡ Fine) where
+module _ (d : Device) (fits : Fits d) (s : List ℕ) (fine : grounds1to15 d s ≡ Ok tt) where
   abbrev ks : List ℕ
   ks = continuous_pilots d (plan_of s)
 
@@ -75,8 +74,8 @@ module _ (d : Device) (fits : Fits d) (s : List ℕ) (fine : grounds1to15 d s �
       sym (step_fine d s (after hs) y (finding_fine d s (after hs) (length y) fine (good_record lamp_cap ks hs) h))
       ∙ ap (shows (length ks)) (next_record_lem lamp_cap ks y hs)
 
-  step_other : (hs : List (List ℕ)) (y : List ℕ) → (length y ≡ d.subcarriers → ⊥) → lamp_step d s (after hs) y ≡ leaves_record (no_lights 17 0) (after hs)
-  step_other hs y h = sym (step_refused d s (after hs) y 17 0 (finding_17 d s (after hs) (length y) fine (good_record lamp_cap ks hs) h))
+  step_other : (hs : List (List ℕ)) (y : List ℕ) → (length y ≡ d.subcarriers → ⊥) → lamp_step d s (after hs) y ≡ leaves_record (no_lights (refusal 17 0)) (after hs)
+  step_other hs y h = sym (step_refused d s (after hs) y (refusal 17 0) (finding_17 d s (after hs) (length y) fine (good_record lamp_cap ks hs) h))
 
   -- the record is that of all that was heard
   abbrev Counted : LampState → Type 0

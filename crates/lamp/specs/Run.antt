@@ -1,16 +1,9 @@
 -- The pilot lamp over whole lists of symbols (document 02, Req 10): from a fresh record on, under one plan, with the record each time as the
 -- lamp left it. Assumes nothing.
-use Rattle.std.specs.Prelude.{ℕ, Bool, true, false, List, [], ◌∷◌}
+use Rattle.std.specs.Prelude.{ℕ, List, [], ◌∷◌, is_ok}
 use Rattle.counting.specs.Search.{pick}
-use Rattle.rules.specs.declared.CountAnswer.{CountAnswer}
-use Rattle.rules.specs.declared.CountAnswer.TheVariants.{Count, Refused}
 use Rattle.lamprecord.specs.Record.{fresh_record}
 use Rattle.lampgrounds.specs.Steps.{Hearing}
-
--- the symbol was heard: it was not refused
-abbrev pub is_heard : CountAnswer → Bool
-is_heard (Count n) = true
-is_heard (Refused n place) = false
 
 -- a lamp between two symbols: its record, and all symbols that it heard, the latest first
 pub record LampState : Type 0 where
@@ -19,11 +12,11 @@ pub record LampState : Type 0 where
 
 -- a lamp that does `step` with the record and the symbol that it is given
 module _ (step : List ℕ → List ℕ → Hearing) where
-  -- one symbol more is given
+  -- one symbol more is given: it is heard, if it is not refused
   unfoldable pub after_one : LampState → List ℕ → LampState
   after_one l y = record {
     counts = (step l.counts y).counts;
-    heard = pick (is_heard (step l.counts y).answer.answer) (y ∷ l.heard) l.heard;
+    heard = pick (is_ok (step l.counts y).answer.answer) (y ∷ l.heard) l.heard;
   }
 
   -- all symbols of a list are given, in their order, refused ones included

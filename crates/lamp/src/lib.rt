@@ -14,7 +14,7 @@ ghost use Rattle.lamp.specs.Claims.{LampClaims};
 use counting::wide;
 use lampgrounds::LampAnswer;
 use pilots::PILOTS;
-use rules::{CountAnswer, Device};
+use rules::Device;
 
 // The cell of subcarrier k; 0 past the end of the symbol.
 fn cell_at(symbol: &[u16], k: usize) -> u16
@@ -31,10 +31,8 @@ fn cells_at(list: [u16; PILOTS], symbol: &[u16]) -> [u16; PILOTS]
     ensures { result ≡ cells_at list symbol.now }
 {
     let mut cells = [0u16; PILOTS];
-    let mut i: usize = 0;
-    while i < PILOTS {
+    for i in 0..PILOTS {
         cells[i] = cell_at(symbol, wide(list[i]));
-        i = i + 1;
     }
     cells
 }
@@ -45,11 +43,9 @@ fn lamp_on(d: Device, plan: &[u8], symbol: &[u16], counts: &mut [u8]) -> LampAns
     ensures { leaves_record result counts.new ≡ lamp_step d plan.now counts.old symbol.now }
 {
     let p = lampgrounds::open_step(d, plan, symbol.len(), counts);
-    let answer = p.answer;
-    let list = p.list;
-    match answer {
-        CountAnswer::Refused(g, place) => lampgrounds::refused(g, place),
-        CountAnswer::Count(n) => lampgrounds::hear(&cells_at(list, symbol), n, counts),
+    match p.answer {
+        Err(refusal) => lampgrounds::refused(refusal),
+        Ok(n) => lampgrounds::hear(&cells_at(p.list, symbol), n, counts),
     }
 }
 

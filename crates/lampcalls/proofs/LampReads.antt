@@ -1,4 +1,5 @@
 -- What a C host takes from a call of the lamp is what the lamp answers and leaves. Assumes nothing.
+use Rattle.std.specs.Prelude.{is_ok}
 use Prim.Native.Nat.{ℕ, ◌%◌, ◌≤◌}
 use mathlib.Core.Path.{◌≡◌, refl, sym, ap, ◌∙◌, subst}
 use mathlib.Core.Bool.{Bool, false}
@@ -9,6 +10,7 @@ use lib.ListN.{length, take, replicate}
 use borrow.Author.Tests.{ltb-false, ne_eqb}
 use Rattle.counting.specs.Search.{pick}
 use Rattle.counting.proofs.Lists.{take-sets, length_tabulate}
+use Rattle.rules.specs.Refusals.{refusal}
 use Rattle.rules.specs.declared.Device.{Device}
 use Rattle.rules.specs.Fits.{Fits}
 use Rattle.rules.specs.Plan.{plan_of}
@@ -27,7 +29,6 @@ use Rattle.bytelamp.proofs.Bytes.{lamp_left}
 use Rattle.answerbytes.specs.Layout.{short}
 use Rattle.answers.specs.Answer.{told_count}
 use Rattle.headend.specs.Calls.{says_lamp, lamp_told, lamp_call}
-use Rattle.callruns.specs.Host.{is_count}
 use Rattle.callruns.specs.CallEntries.{told_in, count_of}
 use Rattle.callruns.proofs.Numbers.{lamp_zero}
 use Rattle.callruns.proofs.Warming.{told_back, long}
@@ -41,7 +42,7 @@ even_bytes y = ne_eqb (length (bytes_of y) % 2) 1 (λ e. absurd (omega (arith, l
 
 -- the lights of an answer that are taken: all of them, and zeros of a refusal
 taken : LampAnswer → List ℕ → List ℕ
-taken m l = pick (is_count m.answer) (take pilots_most (put_if m.answer m.lights l)) (replicate pilots_most 0)
+taken m l = pick (is_ok m.answer) (take pilots_most (put_if m.answer m.lights l)) (replicate pilots_most 0)
 
 module _ (d : Device) (s l : List ℕ) (room : pilots_most ≤ length l) (r y : List ℕ) where
   lights_taken : taken (lamp_step d s r y).answer l ≡ (lamp_step d s r y).answer.lights
@@ -49,7 +50,7 @@ module _ (d : Device) (s l : List ℕ) (room : pilots_most ≤ length l) (r y : 
   lights_taken =
       by_finding (lamp_finding d s r (length y))
       (λ e. subst (λ (m : Hearing). taken m.answer l ≡ m.answer.lights) (step_fine d s r y e) (take-sets l _ pilots_most (length_tabulate _ pilots_most) room))
-      (λ n place e. subst (λ (m : Hearing). taken m.answer l ≡ m.answer.lights) (step_refused d s r y n place e) refl)
+      (λ n place e. subst (λ (m : Hearing). taken m.answer l ≡ m.answer.lights) (step_refused d s r y (refusal n place) e) refl)
 
 module _ (d : Device) (s l a : List ℕ) (lit : short_lights l ≡ false) (said : short a ≡ false) (r y : List ℕ) where
   abbrev step : Hearing

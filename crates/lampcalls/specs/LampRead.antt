@@ -1,9 +1,8 @@
 -- What a C host reads from calls of the pilot lamp (request 10; docs/C-HOST.md): the number, the value in its answer buffer, its record, and, where the
 -- number is 0, the lights. Statements only. Assumes nothing.
-use Rattle.std.specs.Prelude.{ℕ, ◌≡◌, false, List, eqb, take, replicate}
+use Rattle.std.specs.Prelude.{ℕ, ◌≡◌, false, List, eqb, take, replicate, Ok}
 use Rattle.counting.specs.Search.{pick}
 use Rattle.rules.specs.declared.Device.{Device}
-use Rattle.rules.specs.declared.Verdict.TheVariants.{Accepted}
 use Rattle.rules.specs.Plan.{plan_of}
 use Rattle.rules.specs.Grounds.{verdict}
 use Rattle.bytecells.specs.Octets.{bytes_of}
@@ -36,7 +35,7 @@ module _ (d : Device) (s l a : List ℕ) where
     pub read : (r y : List ℕ) → call_step r y ≡ lamp_step d s r y
     -- so the claims of the lamp are claims of its calls
     pub steps : StepClaims call_step
-    pub runs : (n : ℕ) → verdict d s ≡ Accepted n → (ys : List (List ℕ)) → RunClaims lamp_cap (continuous_pilots d (plan_of s)) d.subcarriers call_step ys
+    pub runs : (n : ℕ) → verdict d s ≡ Ok n → (ys : List (List ℕ)) → RunClaims lamp_cap (continuous_pilots d (plan_of s)) d.subcarriers call_step ys
 
 -- the claim, for the device d and any bytes s as a plan
 abbrev pub LampIsRead : Device → List ℕ → Type 0

@@ -12,7 +12,7 @@ ghost use Rattle.io.specs.Counts.{IsPrefixLen};
 use console::Standard;
 use lampgrounds::LampAnswer;
 use pilots::PILOTS;
-use rules::CountAnswer;
+use rules::Refusal;
 
 // The cells that a symbol may have, one more than is right.
 const CELLS: usize = 4097;
@@ -34,22 +34,16 @@ struct Case {
 // A case as it runs: the last answer, how many lights of it are lit, and the checksum.
 #[derive(Clone, Copy)]
 struct Run {
-    answer: CountAnswer,
+    answer: Result<u32, Refusal>,
     lit: u32,
     sum: u32,
-}
-
-// A byte as a number.
-fn number(x: u8) -> u32 {
-    x as u32
 }
 
 // The checksum with some bytes more.
 fn mixed_bytes(sum: u32, bytes: &[u8]) -> u32 {
     let mut mix = sum;
     for byte in bytes {
-        let next = sums::mixed(mix, number(*byte));
-        mix = next;
+        mix = sums::mixed(mix, u32::from(*byte));
     }
     mix
 }
@@ -68,7 +62,7 @@ fn at_most(n: usize, cells: &[u16]) -> usize
 fn lit_of(lights: &[u8]) -> u32 {
     let mut lit: u32 = 0;
     for light in lights {
-        lit = std::num::wrapping_add_u32(lit, number(*light));
+        lit = std::num::wrapping_add_u32(lit, u32::from(*light));
     }
     lit
 }
@@ -116,8 +110,7 @@ fn steps(
     let mut run = begun;
     for t in 0..case.symbols {
         change_all(case, changes, t, symbol);
-        let next = step(run, plan, symbol, counts);
-        run = next;
+        run = step(run, plan, symbol, counts);
     }
     run
 }
@@ -136,16 +129,15 @@ fn begin(plan: &[u8]) -> Run {
 
 // Prints the line of a run; false where it was not written.
 fn print_run(streams: &mut Standard, run: Run) -> bool {
-    let answer = run.answer;
-    match answer {
-        CountAnswer::Refused(number, place) => console::print_refused(
+    match run.answer {
+        Err(refusal) => console::print_refused(
             streams,
             b"lampcases",
-            number,
-            place,
+            refusal.number,
+            refusal.place,
             run.sum,
         ),
-        CountAnswer::Count(n) => console::print_line(
+        Ok(n) => console::print_line(
             streams,
             b"lampcases",
             b"lit # of # #\n",

@@ -4,9 +4,9 @@
 // cannot be read, where there is no symbol or the input ends within one, or where a line cannot be written, standard error is told.
 #![tactic(auto)]
 
-use console::{Input, Standard};
+use console::Standard;
 use pilots::PILOTS;
-use rules::CountAnswer;
+use rules::Refusal;
 
 // The bytes of a symbol, two for each of 4,096 cells.
 const SYMBOL: usize = 8192;
@@ -18,8 +18,8 @@ const RECORD: usize = 129;
 const MOST: u64 = u64::MAX;
 
 // Prints the line of a refused plan.
-fn print_refused(streams: &mut Standard, number: u32, place: u32) -> bool {
-    let line = text::refused_line(number, place);
+fn print_refused(streams: &mut Standard, refusal: Refusal) -> bool {
+    let line = text::refused_line(refusal.number, refusal.place);
     let text = line.text;
     let len = line.len;
     console::print(streams, b"lampcheck", &text[..len])
@@ -48,11 +48,11 @@ fn hear(
 ) -> bool {
     let mut lights = [0u8; PILOTS];
     match bytelamp::lamp(plan, symbol, counts, &mut lights) {
-        CountAnswer::Refused(number, place) => {
-            print_refused(streams, number, place);
+        Err(refusal) => {
+            print_refused(streams, refusal);
             false
         }
-        CountAnswer::Count(n) => print_lights(streams, list, &lights, n),
+        Ok(n) => print_lights(streams, list, &lights, n),
     }
 }
 
@@ -84,19 +84,15 @@ fn next_symbol(
     counts: &mut [u8],
 ) -> bool {
     let mut symbol = [0u8; SYMBOL];
-    match console::read(streams, &mut symbol) {
-        Input::Failed => {
-            console::tell_unread(streams, b"lampcheck");
-            false
-        }
-        Input::Bytes(n) => {
-            if n == SYMBOL {
-                return hear(streams, plan, list, &symbol, counts);
-            }
-            tell_ended(streams, first, n);
-            false
-        }
+    let Some(n) = console::read(streams, &mut symbol) else {
+        console::tell_unread(streams, b"lampcheck");
+        return false;
+    };
+    if n == SYMBOL {
+        return hear(streams, plan, list, &symbol, counts);
     }
+    tell_ended(streams, first, n);
+    false
 }
 
 // Has the lamp hear one symbol after the other.
@@ -111,16 +107,14 @@ fn hear_input(streams: &mut Standard, plan: &[u8], list: &[u16; PILOTS], counts:
 // The lamp of a plan with a fresh record; the line of a refused plan.
 fn check_plan(streams: &mut Standard, plan: &[u8]) {
     let found = pilots::pilots(plan);
-    let answer = found.answer;
-    let list = found.list;
-    match answer {
-        CountAnswer::Refused(number, place) => {
-            print_refused(streams, number, place);
+    match found.answer {
+        Err(refusal) => {
+            print_refused(streams, refusal);
         }
-        CountAnswer::Count(n) => {
+        Ok(n) => {
             let mut counts = [0u8; RECORD];
             let size = console::at_most(n as usize + 1, &counts);
-            hear_input(streams, plan, &list, &mut counts[..size]);
+            hear_input(streams, plan, &found.list, &mut counts[..size]);
         }
     }
 }
@@ -129,14 +123,14 @@ fn check_plan(streams: &mut Standard, plan: &[u8]) {
 fn check_named(rt: &HostRuntime, streams: &mut Standard) {
     let mut buf = io::large_buffer();
     match arguments::read_file(rt, 1, &mut buf) {
-        Input::Failed => {
+        Some(n) => check_plan(streams, &buf[..n]),
+        None => {
             console::tell(
                 streams,
                 b"lampcheck",
                 b": the file of the plan cannot be read\n",
             );
         }
-        Input::Bytes(n) => check_plan(streams, &buf[..n]),
     }
 }
 

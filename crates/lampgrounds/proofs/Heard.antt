@@ -9,8 +9,8 @@ use lib.ListN.{length, get_or}
 use Rattle.counting.specs.Search.{pick}
 use Rattle.counting.proofs.Lists.{length_tabulate, get_d_tabulate, tabulate_cong}
 use Rattle.rules.specs.declared.Device.{Device}
-use Rattle.rules.specs.declared.Finding.TheVariants.{Fine, Ground}
-use Rattle.rules.specs.declared.CountAnswer.TheVariants.{Count, Refused}
+use Rattle.rules.specs.declared.Refusal.{Refusal}
+use Rattle.std.specs.Prelude.{Ok, Err}
 use Rattle.rules.specs.Fits.{Fits}
 use Rattle.rules.specs.Plan.{plan_of}
 use Rattle.rules.specs.Roles.{continuous_mark}
@@ -48,16 +48,16 @@ module _ (d : Device) (s r y : List ℕ) where
   abbrev ks : List ℕ
   ks = continuous_pilots d (plan_of s)
 
-  pub step_refused : (g place : ℕ) → lamp_finding d s r (length y) ≡ Ground g place → leaves_record (no_lights g place) r ≡ lamp_step d s r y
+  pub step_refused : (a : Refusal) → lamp_finding d s r (length y) ≡ Err a → leaves_record (no_lights a) r ≡ lamp_step d s r y
   unfolding lamp_step
-  step_refused g place e = rw (e, lamp_step) refl
+  step_refused a e = rw (e, lamp_step) refl
 
-  pub step_fine : lamp_finding d s r (length y) ≡ Fine → lamp_hears d s r y ≡ lamp_step d s r y
+  pub step_fine : lamp_finding d s r (length y) ≡ Ok tt → lamp_hears d s r y ≡ lamp_step d s r y
   unfolding lamp_step
   step_fine e = rw (e, lamp_step) refl
 
   -- from the list and the number that the opening answered
-  step_heard : (p : PilotAnswer) (m : ℕ) → lamp_finding d s r (length y) ≡ Fine → p ≡ listing ks → m ≡ length ks → length ks ≤ pilots_most
+  step_heard : (p : PilotAnswer) (m : ℕ) → lamp_finding d s r (length y) ≡ Ok tt → p ≡ listing ks → m ≡ length ks → length ks ≤ pilots_most
       → heard_cells (cells_at p.list y) m r ≡ lamp_step d s r y
   unfolding heard_cells lamp_hears
   step_heard p m fine is number few =
@@ -71,15 +71,15 @@ length_cells list y = length_tabulate (λ i. get_or y (get_or list i 0) 0) pilot
 
 module _ (d : Device) (fits : Fits d) (s r y : List ℕ) (p : PilotAnswer) (is : p ≡ opening d s r (length y)) where
   -- the record has a count for each pilot
-  pub room : (m : ℕ) → p.answer ≡ Count m → (m ≤ pilots_most) × (length r ≡ suc m)
+  pub room : (m : ℕ) → p.answer ≡ Ok m → (m ≤ pilots_most) × (length r ≡ suc m)
   room m e =
       let f = opened_fine d s r (length y) m p is e in
       (omega (arith, f.number, few d fits s f.grounds), good_length lamp_cap _ r f.good ∙ ap suc (sym f.number))
 
-  pub opened_heard : (m : ℕ) → p.answer ≡ Count m → heard_cells (cells_at p.list y) m r ≡ lamp_step d s r y
+  pub opened_heard : (m : ℕ) → p.answer ≡ Ok m → heard_cells (cells_at p.list y) m r ≡ lamp_step d s r y
   opened_heard m e =
       let f = opened_fine d s r (length y) m p is e in
       step_heard d s r y p m f.finding f.list f.number (few d fits s f.grounds)
 
-  pub opened_refused : (g place : ℕ) → p.answer ≡ Refused g place → leaves_record (no_lights g place) r ≡ lamp_step d s r y
-  opened_refused g place e = step_refused d s r y g place (opened_ground d s r (length y) g place p is e)
+  pub opened_refused : (a : Refusal) → p.answer ≡ Err a → leaves_record (no_lights a) r ≡ lamp_step d s r y
+  opened_refused a e = step_refused d s r y a (opened_ground d s r (length y) a p is e)

@@ -1,8 +1,7 @@
 -- What both forms of the lamp share, over cells and over bytes: the opening of a step, and the step from the cells at the pilots. Assumes nothing.
-use Rattle.std.specs.Prelude.{ℕ, List, eqb, get_or}
+use Rattle.std.specs.Prelude.{ℕ, List, eqb, get_or, Ok, Err}
 use Rattle.counting.specs.Search.{tabulate}
 use Rattle.rules.specs.declared.Device.{Device}
-use Rattle.rules.specs.declared.Finding.TheVariants.{Fine, Ground}
 use Rattle.rules.specs.Plan.{plan_of}
 use Rattle.rules.specs.Roles.{continuous_mark}
 use Rattle.pilots.specs.declared.PilotAnswer.{PilotAnswer}
@@ -12,7 +11,7 @@ use Rattle.lampgrounds.specs.Steps.{Hearing, shows, lamp_finding}
 
 -- the record r and a symbol of n cells: the pilots, or the first ground
 unfoldable pub opening : Device → List ℕ → List ℕ → ℕ → PilotAnswer
-opening d s r n = elim (lamp_finding d s r n) [ Fine ↦ listing (continuous_pilots d (plan_of s)) | Ground g place ↦ no_listing g place ]
+opening d s r n = elim (lamp_finding d s r n) [ Ok _ ↦ listing (continuous_pilots d (plan_of s)) | Err a ↦ no_listing a ]
 
 -- the cells of the symbol y at the subcarriers of a list of pilots
 unfoldable pub cells_at : List ℕ → List ℕ → List ℕ

@@ -1,11 +1,10 @@
 -- What the pilot lamp answers and leaves when it is given a symbol (document 02, Req 10): grounds 1 to 15, then 28, "tried after 16", then 17. A refusal
 -- changes nothing. Assumes nothing.
-use Rattle.std.specs.Prelude.{ℕ, not, List, eqb, length, replicate}
+use Rattle.std.specs.Prelude.{ℕ, not, List, eqb, length, replicate, Ok, Err}
 use Rattle.counting.specs.Search.{when}
 use Rattle.rules.specs.declared.Device.{Device}
-use Rattle.rules.specs.declared.Finding.{Finding}
-use Rattle.rules.specs.declared.Finding.TheVariants.{Fine, Ground}
-use Rattle.rules.specs.declared.CountAnswer.TheVariants.{Count, Refused}
+use Rattle.rules.specs.declared.Refusal.{Refusal}
+use Rattle.rules.specs.Refusals.{Finding}
 use Rattle.rules.specs.Plan.{plan_of}
 use Rattle.rules.specs.Grounds.{◌else◌, ground?, grounds1to15}
 use Rattle.pilots.specs.Pilots.{pilots_most, continuous_pilots}
@@ -22,11 +21,11 @@ leaves_record a r = record { answer = a; counts = r }
 
 -- the record r of n pilots, and its lights
 abbrev pub shows : ℕ → List ℕ → Hearing
-shows n r = leaves_record (record { answer = Count n; lights = lights pilots_most r }) r
+shows n r = leaves_record (record { answer = Ok n; lights = lights pilots_most r }) r
 
 -- a refusal: zeros for lights, which count only where nothing refuses
-abbrev pub no_lights : ℕ → ℕ → LampAnswer
-no_lights n place = record { answer = Refused n place; lights = replicate pilots_most 0 }
+abbrev pub no_lights : Refusal → LampAnswer
+no_lights a = record { answer = Err a; lights = replicate pilots_most 0 }
 
 -- 28 of the record r, then 17 of a symbol of n cells, with the pilots ks on so many subcarriers; no cell is looked at
 unfoldable pub lamp_grounds : List ℕ → ℕ → List ℕ → ℕ → Finding
@@ -43,4 +42,4 @@ module _ (d : Device) (s : List ℕ) where
 
   -- the lamp with the record r is given the symbol y, under any bytes as a plan
   unfoldable pub lamp_step : List ℕ → List ℕ → Hearing
-  lamp_step r y = elim (lamp_finding r (length y)) [ Fine ↦ lamp_hears r y | Ground n place ↦ leaves_record (no_lights n place) r ]
+  lamp_step r y = elim (lamp_finding r (length y)) [ Ok _ ↦ lamp_hears r y | Err a ↦ leaves_record (no_lights a) r ]

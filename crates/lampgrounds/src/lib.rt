@@ -2,40 +2,40 @@
 // the lights from the cells at the pilots. specs/Steps says what the lamp answers and leaves.
 #![tactic(auto)]
 
-ghost use Rattle.std.specs.Prelude.{suc, ◌≤◌, ◌≡◌, length};
-ghost use Rattle.rules.specs.declared.CountAnswer.TheVariants.{Count};
+ghost use Rattle.std.specs.Prelude.{suc, ◌≤◌, ◌≡◌, length, Ok, Err};
 ghost use Rattle.rules.specs.Fits.{Fits};
+ghost use Rattle.rules.specs.Refusals.{refusal};
 ghost use Rattle.pilots.specs.Pilots.{pilots_most, no_listing, pilots_answer};
 ghost use Rattle.lampgrounds.specs.Steps.{leaves_record, no_lights};
 ghost use Rattle.lampgrounds.specs.Opening.{opening, heard_cells};
 
 use pilots::{PILOTS, PilotAnswer};
-use rules::{CountAnswer, Device};
+use rules::{Device, Refusal};
 
 // The answer of the lamp: the number of pilots and the lights in their order, 1 lit, 0 dark, 0 past the last pilot; or refused, and zeros,
 // which say nothing of the pilots: lights count only where nothing refuses.
 #[derive(Clone, Copy)]
 pub struct LampAnswer {
-    pub answer: CountAnswer,
+    pub answer: Result<u32, Refusal>,
     pub lights: [u8; PILOTS],
 }
 
 // A refusal.
-pub fn refused(number: u32, place: u32) -> LampAnswer
-    ensures { result ≡ no_lights number place }
+pub fn refused(refusal: Refusal) -> LampAnswer
+    ensures { result ≡ no_lights refusal }
 {
     LampAnswer {
-        answer: CountAnswer::Refused(number, place),
+        answer: Err(refusal),
         lights: [0u8; PILOTS],
     }
 }
 
 // The same in the place of the pilots.
 fn unlisted(number: u32) -> PilotAnswer
-    ensures { result ≡ no_listing number 0 }
+    ensures { result ≡ no_listing (refusal number 0) }
 {
     PilotAnswer {
-        answer: CountAnswer::Refused(number, 0),
+        answer: Err(Refusal { number, place: 0 }),
         list: [0u16; PILOTS],
     }
 }
@@ -49,7 +49,7 @@ fn open_accepted(
     cells: usize,
     counts: &[u8],
 ) -> PilotAnswer
-    requires { (p ≡ pilots_answer d plan.now) × (p.answer ≡ Count n) × (n ≤ pilots_most) }
+    requires { (p ≡ pilots_answer d plan.now) × (p.answer ≡ Ok n) × (n ≤ pilots_most) }
     ensures { result ≡ opening d plan.now counts.now cells }
 {
     if lamprecord::bad_record(n, counts) {
@@ -67,10 +67,9 @@ pub fn open_step(d: Device, plan: &[u8], cells: usize, counts: &[u8]) -> PilotAn
     ensures { result ≡ opening d plan.now counts.now cells }
 {
     let p = pilots::pilots_on(d, plan);
-    let answer = p.answer;
-    match answer {
-        CountAnswer::Refused(_, _) => p,
-        CountAnswer::Count(n) => open_accepted(d, plan, p, n as usize, cells, counts),
+    match p.answer {
+        Err(_) => p,
+        Ok(n) => open_accepted(d, plan, p, n as usize, cells, counts),
     }
 }
 
@@ -81,7 +80,7 @@ pub fn hear(cells: &[u16; PILOTS], n: u32, counts: &mut [u8]) -> LampAnswer
 {
     lamprecord::advance(cells, n as usize, counts);
     LampAnswer {
-        answer: CountAnswer::Count(n),
+        answer: Ok(n),
         lights: lamprecord::lights_of(counts),
     }
 }

@@ -27,12 +27,10 @@ fn bad_count(first: u8, c: u8) -> bool
 fn some_bad(counts: &[u8]) -> bool
     ensures { result ≡ not (is_none (lowest (bad_count lamp_cap counts.now) (length counts.now))) }
 {
-    let mut i: usize = 0;
-    while i < counts.len() {
-        if bad_count(counts[0], counts[i]) {
+    for x in counts {
+        if bad_count(counts[0], *x) {
             return true;
         }
-        i = i + 1;
     }
     false
 }
@@ -67,10 +65,8 @@ pub fn advance(cells: &[u16; PILOTS], n: usize, counts: &mut [u8])
     requires { (length cells.now ≡ pilots_most) × (n ≤ pilots_most) × (length counts.old ≡ suc n) }
     ensures { counts.new ≡ next_by lamp_cap (λ i. eqb (get_or cells.now i 0) continuous_mark) n counts.old }
 {
-    let mut i: usize = 0;
-    while i < n {
+    for i in 0..n {
         counts[i + 1] = next_count(cells[i], counts[i + 1]);
-        i = i + 1;
     }
     counts[0] = more(counts[0]);
 }
@@ -100,10 +96,8 @@ pub fn lights_of(counts: &[u8]) -> [u8; PILOTS]
     ensures { result ≡ lights pilots_most counts.now }
 {
     let mut out = [0u8; PILOTS];
-    let mut i: usize = 0;
-    while i < PILOTS {
+    for i in 0..PILOTS {
         out[i] = light(count_at(counts, 0), count_at(counts, i + 1));
-        i = i + 1;
     }
     out
 }

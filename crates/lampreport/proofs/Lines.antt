@@ -1,24 +1,15 @@
 -- Laws of a line as it is put together. Assumes nothing.
-use Prim.Native.Nat.{ℕ, suc, ◌+◌, ◌≤◌, ◌<◌}
+use Prim.Native.Nat.{ℕ, ◌+◌, ◌≤◌}
 use mathlib.Core.Path.{◌≡◌, refl, sym, ap, ◌∙◌}
 use mathlib.Core.List.{List, [], ◌∷◌, ◌++◌, append-nil, append_assoc}
 use native.Mathlib.Numerals.{add-one}
 use native.Mathlib.Omega.{arith}
 use lib.Dec.{eqb}
-use lib.ListN.{length, get_or, set, take}
-use lib.Seq.{length-take-le, take-suc, take-suc-set}
+use lib.ListN.{length, get_or, take}
+use lib.Seq.{length-take-le}
 use Rattle.counting.specs.Search.{keep}
 use Rattle.text.specs.Text.{decimal}
 use Rattle.lampreport.specs.LampLine.{all_lit, dark_word, spaced, dark_pilots, dark_line, lamp_line}
-
--- one byte more of those to come
-pub put_next : (base out bytes : List ℕ) (at i : ℕ) → at + i < length out → i < length bytes → take (at + i) out ≡ base ++ take i bytes
-    → take (at + (i + 1)) (set out (at + i) (get_or bytes i 0)) ≡ base ++ take (i + 1) bytes
-put_next base out bytes at i room h e =
-    let x : ℕ = get_or bytes i 0 in
-    let n : at + (i + 1) ≡ suc (at + i) = omega arith in
-    rw (n, add-one i)
-    (take-suc-set out (at + i) x room ∙ ap (λ (l : List ℕ). l ++ x ∷ []) e ∙ append_assoc base (take i bytes) (x ∷ []) ∙ ap (λ (l : List ℕ). base ++ l) (sym (take-suc bytes i 0 h)))
 
 -- ---- numbers, each after a space
 

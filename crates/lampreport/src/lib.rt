@@ -26,12 +26,9 @@ fn put(out: &mut [u8], at: usize, bytes: &[u8]) -> usize
     ensures number { result ≡ at + length bytes.now }
     ensures line { take result out.new ≡ take at out.old ++ bytes.now }
 {
-    let mut i: usize = 0;
-    while i < bytes.len() {
-        out[at + i] = bytes[i];
-        i = i + 1;
-    }
-    at + bytes.len()
+    let end = at + bytes.len();
+    out[at..end].copy_from_slice(bytes);
+    end
 }
 
 // The same of a space and a pilot, which has up to ten digits.
@@ -71,33 +68,21 @@ fn put_all(
     ensures line { take result out.new ≡ take at out.old ++ spaced (dark_pilots list.now lights.now n) }
 {
     let mut end = at;
-    let mut i: usize = 0;
-    while i < n {
-        let next = put_dark(out, end, list[i], lights[i]);
-        end = next;
-        i = i + 1;
+    for i in 0..n {
+        end = put_dark(out, end, list[i], lights[i]);
     }
     end
 }
 
-// How many of n pilots have a place: all that an accepted plan has.
-fn listed(n: u32) -> usize
-    ensures { result ≡ min n pilots_most }
-{
-    if n as usize <= PILOTS {
-        return n as usize;
-    }
-    PILOTS
-}
-
-// The line of n pilots and their lights.
+// The line of n pilots and their lights; an accepted plan has no more pilots than places.
 pub fn lamp_line(list: &[u16; PILOTS], lights: &[u8; PILOTS], n: u32) -> LampLine
     ensures text_value { take result.len result.text ≡ lamp_line list.now lights.now (min n pilots_most) }
     ensures prefix_len { IsPrefixLen result.len result.text }
 {
     let mut text = [0u8; PLACES];
     let start = put(&mut text, 0, b"dark");
-    let end = put_all(&mut text, start, list, lights, listed(n));
+    let listed = (n as usize).min(PILOTS);
+    let end = put_all(&mut text, start, list, lights, listed);
     if end == start {
         let len = put(&mut text, 0, b"all lit\n");
         return LampLine { text, len };

@@ -1,6 +1,5 @@
 -- What a search finds in one band, a to b, and the bands of the lists one after the other. Assumes nothing.
-use Rattle.std.specs.Prelude.{ℕ, suc, ◌-◌, ◌*◌, List, leb, ltb, get_or}
-use Rattle.std.proofs.Math.Option.{Option}
+use Rattle.std.specs.Prelude.{ℕ, suc, ◌-◌, ◌*◌, List, leb, ltb, get_or, Option}
 use Rattle.counting.specs.Search.{when}
 use Rattle.rules.specs.Plan.{Plan}
 use Rattle.rules.specs.Bands.{width, excluded_in}

@@ -4,7 +4,6 @@
 
 ghost use Rattle.std.specs.Prelude.{◌≡◌, ◌≤◌, ◌<◌};
 ghost use Rattle.counting.specs.Search.{first};
-ghost use Rattle.counting.specs.Answer.{place_of};
 ghost use Rattle.rules.specs.Plan.{plan_of};
 ghost use Rattle.rules.specs.Bands.{width};
 ghost use Rattle.rules.specs.Fits.{Fits, capacity};
@@ -12,7 +11,7 @@ ghost use Rattle.bands.specs.BandList.{BandList};
 ghost use Rattle.limits.specs.BandAt.{BandAt};
 ghost use Rattle.limits.specs.Answers.{narrow_in, wide_in, much_in, at_band};
 
-use counting::{Found, wide};
+use counting::wide;
 use rules::Device;
 
 // A band, and its part of the list x of the individually excluded: from `from` to `to` - 1.
@@ -64,19 +63,17 @@ pub fn first_narrow(
     x: &[u16; 4096],
     m: usize,
     w: usize,
-) -> Found
+) -> Option<u32>
     requires { Fits d × BandList d (plan_of plan.now) a.now b.now c.now x.now m × (m < 256) }
-    ensures { place_of result ≡ first (at_band (narrow_in w) a.now b.now) m }
+    ensures { result ≡ first (at_band (narrow_in w) a.now b.now) m }
 {
-    let mut j: usize = 0;
-    while j < m {
+    for j in 0..m {
         let k = band_at(d, plan, a, b, c, x, m, j);
         if width_of(k.low, k.high) < w {
-            return Found::At(k.low as u32);
+            return Some(k.low as u32);
         }
-        j += 1;
     }
-    Found::Nothing
+    None
 }
 
 // The lowest band of width w or more (ground 10).
@@ -89,19 +86,17 @@ pub fn first_wide(
     x: &[u16; 4096],
     m: usize,
     w: usize,
-) -> Found
+) -> Option<u32>
     requires { Fits d × BandList d (plan_of plan.now) a.now b.now c.now x.now m × (m < 256) }
-    ensures { place_of result ≡ first (at_band (wide_in w) a.now b.now) m }
+    ensures { result ≡ first (at_band (wide_in w) a.now b.now) m }
 {
-    let mut j: usize = 0;
-    while j < m {
+    for j in 0..m {
         let k = band_at(d, plan, a, b, c, x, m, j);
         if w <= width_of(k.low, k.high) {
-            return Found::At(k.low as u32);
+            return Some(k.low as u32);
         }
-        j += 1;
     }
-    Found::Nothing
+    None
 }
 
 // The lowest band with too many excluded for its width (ground 12).
@@ -113,17 +108,15 @@ pub fn first_much(
     c: &[u16; 256],
     x: &[u16; 4096],
     m: usize,
-) -> Found
+) -> Option<u32>
     requires { Fits d × BandList d (plan_of plan.now) a.now b.now c.now x.now m × (m < 256) }
-    ensures { place_of result ≡ first (at_band (much_in (plan_of plan.now)) a.now b.now) m }
+    ensures { result ≡ first (at_band (much_in (plan_of plan.now)) a.now b.now) m }
 {
-    let mut j: usize = 0;
-    while j < m {
+    for j in 0..m {
         let k = band_at(d, plan, a, b, c, x, m, j);
         if width_of(k.low, k.high) < 20 * (k.to - k.from) {
-            return Found::At(k.low as u32);
+            return Some(k.low as u32);
         }
-        j += 1;
     }
-    Found::Nothing
+    None
 }

@@ -15,11 +15,7 @@ fn copy(from: &[u16], to: &mut [u16])
     ensures { to.new ≡ take (length to.old) from.now }
 {
     let n = to.len();
-    let mut done: usize = 0;
-    while done < n {
-        to[done] = from[done];
-        done = done + 1;
-    }
+    to.copy_from_slice(&from[..n]);
 }
 
 // The symbol on the line that sends the cells x, from the subcarriers by rank.

@@ -1,5 +1,5 @@
 // The limits of data cells under a load profile.
-use rules::CountAnswer;
+use rules::Refusal;
 
 // The bytes of a stream of ones that fills any symbol: 4,096 cells of 14 bits.
 const ONES: usize = 7168;
@@ -24,9 +24,12 @@ pub(crate) fn put(
     phase: u32,
     nd: usize,
     limits: &mut [u16],
-) -> CountAnswer {
+) -> Result<u32, Refusal> {
     if limits.len() < nd {
-        return CountAnswer::Refused(18, 0);
+        return Err(Refusal {
+            number: 18,
+            place: 0,
+        });
     }
     let ones = [255u8; ONES];
     let answer = filling::fill_symbol(plan, profile, phase, &ones, 0, &mut limits[..nd]);

@@ -1,6 +1,6 @@
 // The link under trial, and what its steps have in common.
 use console::Standard;
-use rules::{EmitterState, ReceiverState};
+use rules::{EmitterState, ReceiverState, Refusal};
 
 // The cells of a store, and of a symbol.
 pub(crate) const STORE: usize = 60000;
@@ -12,9 +12,6 @@ pub(crate) const PHASES: usize = 128;
 
 // The code of a step that sent, and of a fresh start.
 pub(crate) const SENT: u32 = 300;
-
-// The kind of the right sends and receives; those of the wrong ones are 0 to 7.
-pub(crate) const RIGHT: u32 = 8;
 
 // The link: M, and how many cells the store of each end needs; the starting phase, the number of the next symbol, both states, and whether all was right so far; then the
 // numbers of the line.
@@ -48,9 +45,9 @@ pub(crate) fn less(n: usize) -> usize {
     n - 1
 }
 
-// The code of a refusal by a ground.
-pub(crate) fn refusal(number: u32) -> u32 {
-    std::num::wrapping_add_u32(100, number)
+// The code of a refusal, by the number of its ground.
+pub(crate) fn refused(refusal: Refusal) -> u32 {
+    std::num::wrapping_add_u32(100, refusal.number)
 }
 
 // The phase of an input symbol.

@@ -11,9 +11,11 @@ mod link;
 mod receives;
 mod sends;
 
-use console::{Input, Standard};
-use link::{Link, PHASES, RIGHT, SENT, STORE, SYMBOL, answered, more, refusal};
-use rules::{CountAnswer, EmitterState, ListenAnswer, ReceiverState, StartAnswer, Verdict};
+use console::Standard;
+use link::{Link, PHASES, SENT, STORE, SYMBOL, answered, more, refused};
+use receives::ReceiveKind;
+use rules::{EmitterState, ReceiverState, Refusal};
+use sends::SendKind;
 
 // The load of every subcarrier where no profile is named: with it a data cell may be any number up to 16383.
 const LOAD: u8 = 14;
@@ -32,20 +34,12 @@ fn fresh(
     let mut next = link;
     let mut got = SENT;
     match trials::fresh_receiver(plan, link.start, STORE, heard) {
-        ListenAnswer::Started(state) => {
-            next.receiver = state;
-        }
-        ListenAnswer::Refused(number, _) => {
-            got = refusal(number);
-        }
+        Ok(state) => next.receiver = state,
+        Err(refusal) => got = refused(refusal),
     }
     match trials::fresh_emitter(plan, link.start, STORE, sent) {
-        StartAnswer::Started(state) => {
-            next.emitter = state;
-        }
-        StartAnswer::Refused(number, _) => {
-            got = refusal(number);
-        }
+        Ok(state) => next.emitter = state,
+        Err(refusal) => got = refused(refusal),
     }
     answered(streams, next, SENT, got)
 }
@@ -77,17 +71,17 @@ fn one_symbol(
     sent: &mut [u16; STORE],
     heard: &mut [u16; STORE],
 ) -> Link {
-    let kind = std::num::wrapping_add_u32(link.start, link.t) % 8;
+    let number = std::num::wrapping_add_u32(link.start, link.t);
     let nd = link::count_of(link, link.t, counts);
     let due = receives::due_of(link, counts);
     let mut symbol = [0u16; SYMBOL];
     let mut limits = [0u16; SYMBOL];
     let phase = link::phase_of(link, link.t);
-    cell_limits::put(plan, profile, phase, nd, &mut limits);
+    let _ = cell_limits::put(plan, profile, phase, nd, &mut limits);
     let mut next = sends::send(
         streams,
         link,
-        kind,
+        SendKind::wrong(number),
         nd,
         plan,
         profile,
@@ -98,7 +92,7 @@ fn one_symbol(
     next = sends::send(
         streams,
         next,
-        RIGHT,
+        SendKind::Right,
         nd,
         plan,
         profile,
@@ -107,11 +101,11 @@ fn one_symbol(
         &mut symbol,
     );
     let back = link::phase_of(link, due.input);
-    cell_limits::put(plan, profile, back, due.count, &mut limits);
+    let _ = cell_limits::put(plan, profile, back, due.count, &mut limits);
     next = receives::receive(
         streams,
         next,
-        kind,
+        ReceiveKind::wrong(number),
         due,
         plan,
         profile,
@@ -122,7 +116,7 @@ fn one_symbol(
     next = receives::receive(
         streams,
         next,
-        RIGHT,
+        ReceiveKind::Right,
         due,
         plan,
         profile,
@@ -208,8 +202,8 @@ fn check_link(streams: &mut Standard, plan: &[u8], profile: &[u8]) {
 }
 
 // Prints the line of a refused plan or profile.
-fn print_refused(streams: &mut Standard, number: u32, place: u32) {
-    let line = text::refused_line(number, place);
+fn print_refused(streams: &mut Standard, refusal: Refusal) {
+    let line = text::refused_line(refusal.number, refusal.place);
     let text = line.text;
     let len = line.len;
     console::print(streams, b"linkcheck", &text[..len]);
@@ -220,30 +214,29 @@ fn check_profile(streams: &mut Standard, plan: &[u8], profile: &[u8]) {
     let mut limits = [0u16; SYMBOL];
     let nd = trials::data_count(plan, 0);
     match cell_limits::put(plan, profile, 0, nd, &mut limits) {
-        CountAnswer::Refused(number, place) => print_refused(streams, number, place),
-        CountAnswer::Count(_) => check_link(streams, plan, profile),
+        Err(refusal) => print_refused(streams, refusal),
+        Ok(_) => check_link(streams, plan, profile),
     }
 }
 
 // Judges a plan, and tries the link under an accepted one.
 fn check_plan(streams: &mut Standard, plan: &[u8], profile: &[u8]) {
     match judge::judge(plan) {
-        Verdict::Refused(number, place) => print_refused(streams, number, place),
-        Verdict::Accepted(_) => check_profile(streams, plan, profile),
+        Err(refusal) => print_refused(streams, refusal),
+        Ok(_) => check_profile(streams, plan, profile),
     }
 }
 
 // Reads the plan, and tries it with a profile.
 fn check_input(streams: &mut Standard, profile: &[u8]) {
     let mut buf = io::large_buffer();
-    match console::read(streams, &mut buf) {
-        Input::Failed => console::tell_unread(streams, b"linkcheck"),
-        Input::Bytes(n) => {
-            check_plan(streams, &buf[..n], profile);
-            if n == 65536 {
-                console::read_on(streams, &mut buf);
-            }
-        }
+    let Some(n) = console::read(streams, &mut buf) else {
+        console::tell_unread(streams, b"linkcheck");
+        return;
+    };
+    check_plan(streams, &buf[..n], profile);
+    if n == 65536 {
+        console::read_on(streams, &mut buf);
     }
 }
 
@@ -251,14 +244,14 @@ fn check_input(streams: &mut Standard, profile: &[u8]) {
 fn check_named(rt: &HostRuntime, streams: &mut Standard) {
     let mut profile = [0u8; 4097];
     match arguments::read_file(rt, 1, &mut profile) {
-        Input::Failed => {
+        Some(n) => check_input(streams, &profile[..n]),
+        None => {
             console::tell(
                 streams,
                 b"linkcheck",
                 b": the file of the load profile cannot be read\n",
             );
         }
-        Input::Bytes(n) => check_input(streams, &profile[..n]),
     }
 }
 

@@ -1,11 +1,48 @@
 // The receives of linkcheck: before each right one a wrong one, which has to be refused.
 use crate::cell_limits;
-use crate::link::{
-    Link, PHASES, RIGHT, STORE, SYMBOL, answered, count_of, differs, less, more, refusal,
-};
+use crate::link::{Link, PHASES, STORE, SYMBOL, answered, count_of, differs, less, more, refused};
 use console::Standard;
-use rules::ReceiveAnswer;
+use rules::{Heard, ReceiverState, RefusedStep};
 use trials::Receiving;
+
+// The kinds of receives: each wrong one by what is wrong with it, and the right one.
+#[derive(Clone, Copy, PartialEq, Eq)]
+pub(crate) enum ReceiveKind {
+    // The phase is 128 too high.
+    PhaseTooHigh,
+    // M symbols are said to be heard.
+    HeardTooMany,
+    // The phase is 128.
+    PastLastPhase,
+    // The symbol has 4,095 cells.
+    ShortSymbol,
+    // The store is a cell too short.
+    ShortStore,
+    // The data buffer is a cell too short.
+    ShortBuffer,
+    // A scattered placeholder of the symbol is spoiled.
+    PlaceholderSpoiled,
+    // A data cell of the symbol is one above the limit of its load.
+    CellTooHigh,
+    // Nothing is wrong.
+    Right,
+}
+
+impl ReceiveKind {
+    // The wrong kind with a number; there are eight, over and over.
+    pub(crate) fn wrong(number: u32) -> ReceiveKind {
+        match number % 8 {
+            0 => ReceiveKind::PhaseTooHigh,
+            1 => ReceiveKind::HeardTooMany,
+            2 => ReceiveKind::PastLastPhase,
+            3 => ReceiveKind::ShortSymbol,
+            4 => ReceiveKind::ShortStore,
+            5 => ReceiveKind::ShortBuffer,
+            6 => ReceiveKind::PlaceholderSpoiled,
+            _ => ReceiveKind::CellTooHigh,
+        }
+    }
+}
 
 // The codes of answers: warming, data with the right count, data with another.
 const WARMING: u32 = 0;
@@ -41,9 +78,8 @@ pub(crate) fn due_of(link: Link, counts: &[u16; PHASES]) -> Due {
     }
 }
 
-// What a receive of a kind is given. Wrong: 128 phases on, with heard M, at phase 128, of a symbol of 4,095 cells, with a store that is a cell
-// too short, with a data buffer that is a cell too short, and with a spoiled symbol.
-fn receiving(link: Link, kind: u32, count: usize) -> Receiving {
+// What a receive of a kind is given, with the count of data cells that are due.
+fn receiving(link: Link, kind: ReceiveKind, count: usize) -> Receiving {
     let state = link.receiver;
     let mut given = Receiving {
         phase: state.phase,
@@ -53,43 +89,62 @@ fn receiving(link: Link, kind: u32, count: usize) -> Receiving {
         buffer: SYMBOL,
     };
     match kind {
-        0 => given.phase = std::num::wrapping_add_u32(state.phase, 128),
-        1 => given.heard = link.depth,
-        2 => given.phase = 128,
-        3 => given.symbol = 4095,
-        4 => given.store = less(link.receiver_need),
-        5 => given.buffer = less(count),
-        _ => {}
+        ReceiveKind::PhaseTooHigh => {
+            given.phase = std::num::wrapping_add_u32(state.phase, 128);
+        }
+        ReceiveKind::HeardTooMany => given.heard = link.depth,
+        ReceiveKind::PastLastPhase => given.phase = 128,
+        ReceiveKind::ShortSymbol => given.symbol = 4095,
+        ReceiveKind::ShortStore => given.store = less(link.receiver_need),
+        ReceiveKind::ShortBuffer => given.buffer = less(count),
+        ReceiveKind::PlaceholderSpoiled | ReceiveKind::CellTooHigh | ReceiveKind::Right => {}
     }
     given
 }
 
 // Whether a kind is tried: a store that is too short only where one is needed, a data buffer that is not while warming, a spoiled placeholder
 // only where there is one, at the place.
-fn tried(link: Link, kind: u32, code: u32, place: usize) -> bool {
+fn tried(link: Link, kind: ReceiveKind, code: u32, place: usize) -> bool {
     match kind {
-        4 => link.receiver_need != 0,
-        5 => code == DATA,
-        6 => place < SYMBOL,
+        ReceiveKind::ShortStore => link.receiver_need != 0,
+        ReceiveKind::ShortBuffer => code == DATA,
+        ReceiveKind::PlaceholderSpoiled => place < SYMBOL,
         _ => true,
     }
 }
 
-// By what a cell of the symbol is spoiled: data by the number above the limit of its load.
-fn cell_of(kind: u32, load: u8) -> u16 {
-    if kind == 7 {
+// Which cell of the symbol a kind spoils, 4096 where none.
+fn place_of(kind: ReceiveKind, symbol: &[u16; SYMBOL]) -> usize {
+    match kind {
+        ReceiveKind::PlaceholderSpoiled => samples::inputs::first_placeholder(symbol),
+        ReceiveKind::CellTooHigh => samples::inputs::first_data(symbol),
+        _ => SYMBOL,
+    }
+}
+
+// By what it is spoiled: data by the number above the limit of its load.
+fn cell_of(kind: ReceiveKind, load: u8) -> u16 {
+    if kind == ReceiveKind::CellTooHigh {
         return cell_limits::above(load);
     }
     0
 }
 
 // The code of the answer to a kind.
-fn code_of(kind: u32, due: Due) -> u32 {
+fn code_of(kind: ReceiveKind, due: Due) -> u32 {
     match kind {
-        0 | 1 | 2 => 116,
-        3 | 4 | 5 => 117,
-        6 | 7 => 120,
-        _ => due.code,
+        ReceiveKind::PhaseTooHigh | ReceiveKind::HeardTooMany | ReceiveKind::PastLastPhase => 116,
+        ReceiveKind::ShortSymbol | ReceiveKind::ShortStore | ReceiveKind::ShortBuffer => 117,
+        ReceiveKind::PlaceholderSpoiled | ReceiveKind::CellTooHigh => 120,
+        ReceiveKind::Right => due.code,
+    }
+}
+
+// Whether a kind is given the link's own state: a wrong phase or count of heard symbols is another.
+fn has_own_state(kind: ReceiveKind) -> bool {
+    match kind {
+        ReceiveKind::PhaseTooHigh | ReceiveKind::HeardTooMany | ReceiveKind::PastLastPhase => false,
+        _ => true,
     }
 }
 
@@ -132,37 +187,35 @@ fn compared(
     )
 }
 
-// The link after a receive with this answer: a wrong one leaves the data buffer as it was. A state other than the link's own, which the
-// kinds 0 to 2 are given, is not taken back.
+// The link after a receive with this answer: a wrong one leaves the data buffer as it was. A state other than the link's own is not taken
+// back.
 fn told(
     streams: &mut Standard,
     link: Link,
-    kind: u32,
+    kind: ReceiveKind,
     due: Due,
-    answer: ReceiveAnswer,
+    answer: Result<Heard<ReceiverState>, RefusedStep<ReceiverState>>,
     limits: &[u16; SYMBOL],
     cells: &[u16; SYMBOL],
 ) -> Link {
     let mut next = link;
     let mut got = WARMING;
     match answer {
-        ReceiveAnswer::Warming(state) => {
-            next.receiver = state;
-        }
-        ReceiveAnswer::Data(state, n) => {
+        Ok(Heard::Warming(state)) => next.receiver = state,
+        Ok(Heard::Data(state, n)) => {
             next.receiver = state;
             got = code_of_data(n, due.count);
         }
-        ReceiveAnswer::Refused(number, _, back) => {
+        Err(step) => {
             next.refused = more(link.refused);
-            got = refusal(number);
-            if 3 <= kind {
-                next.receiver = back;
+            got = refused(step.refusal);
+            if has_own_state(kind) {
+                next.receiver = step.state;
             }
         }
     }
     let judged = answered(streams, next, code_of(kind, due), got);
-    if kind == RIGHT {
+    if kind == ReceiveKind::Right {
         return compared(streams, judged, due.input, due.count, limits, cells);
     }
     compared(streams, judged, link.t, 0, limits, cells)
@@ -173,7 +226,7 @@ fn told(
 pub(crate) fn receive(
     streams: &mut Standard,
     link: Link,
-    kind: u32,
+    kind: ReceiveKind,
     due: Due,
     plan: &[u8],
     profile: &[u8],
@@ -181,7 +234,7 @@ pub(crate) fn receive(
     store: &mut [u16; STORE],
     symbol: &mut [u16; SYMBOL],
 ) -> Link {
-    let place = samples::inputs::spoiled_at(kind, symbol);
+    let place = place_of(kind, symbol);
     if !tried(link, kind, due.code, place) {
         return link;
     }

@@ -1,12 +1,50 @@
 // The sends of linkcheck: before each right one a wrong one, which has to be refused.
-use crate::link::{Link, RIGHT, SENT, STORE, SYMBOL, answered, less, more, refusal};
+use crate::link::{Link, SENT, STORE, SYMBOL, answered, less, more, refused};
 use console::Standard;
-use rules::SendAnswer;
+use rules::{EmitterState, RefusedStep};
 use trials::Sending;
 
-// What a send of a kind is given; nd is N_D. Wrong: with a cell too few, with a cell too many, with one above its limit in the middle, 128
-// phases on, a flush at phase 128, a flush with a symbol of 4,095 cells, with a store that is a cell too short, with the mark of filler as data.
-fn sending(link: Link, kind: u32, nd: usize) -> Sending {
+// The kinds of sends: each wrong one by what is wrong with it, and the right one.
+#[derive(Clone, Copy, PartialEq, Eq)]
+pub(crate) enum SendKind {
+    // A cell less than N_D.
+    CellTooFew,
+    // A cell more than N_D.
+    CellTooMany,
+    // The cell in the middle is one above its limit.
+    CellTooHigh,
+    // The phase is 128 too high.
+    PhaseTooHigh,
+    // A flush at phase 128.
+    FlushPastLastPhase,
+    // A flush with a symbol of 4,095 cells.
+    FlushShortSymbol,
+    // The store is a cell too short.
+    ShortStore,
+    // The first cell is the mark of filler.
+    FillerAsData,
+    // Nothing is wrong.
+    Right,
+}
+
+impl SendKind {
+    // The wrong kind with a number; there are eight, over and over.
+    pub(crate) fn wrong(number: u32) -> SendKind {
+        match number % 8 {
+            0 => SendKind::CellTooFew,
+            1 => SendKind::CellTooMany,
+            2 => SendKind::CellTooHigh,
+            3 => SendKind::PhaseTooHigh,
+            4 => SendKind::FlushPastLastPhase,
+            5 => SendKind::FlushShortSymbol,
+            6 => SendKind::ShortStore,
+            _ => SendKind::FillerAsData,
+        }
+    }
+}
+
+// What a send of a kind is given; nd is N_D.
+fn sending(link: Link, kind: SendKind, nd: usize) -> Sending {
     let state = link.emitter;
     let mut given = Sending {
         flush: false,
@@ -16,65 +54,76 @@ fn sending(link: Link, kind: u32, nd: usize) -> Sending {
         symbol: SYMBOL,
     };
     match kind {
-        0 => given.count = less(nd),
-        1 => given.count = std::num::wrapping_add_usize(nd, 1),
-        3 => given.phase = std::num::wrapping_add_u32(state.phase, 128),
-        4 => {
+        SendKind::CellTooFew => given.count = less(nd),
+        SendKind::CellTooMany => given.count = std::num::wrapping_add_usize(nd, 1),
+        SendKind::PhaseTooHigh => given.phase = std::num::wrapping_add_u32(state.phase, 128),
+        SendKind::FlushPastLastPhase => {
             given.flush = true;
             given.phase = 128;
         }
-        5 => {
+        SendKind::FlushShortSymbol => {
             given.flush = true;
             given.symbol = 4095;
         }
-        6 => given.store = less(link.emitter_need),
-        RIGHT => given.flush = samples::inputs::is_flush(link.t),
-        _ => {}
+        SendKind::ShortStore => given.store = less(link.emitter_need),
+        SendKind::Right => given.flush = samples::inputs::is_flush(link.t),
+        SendKind::CellTooHigh | SendKind::FillerAsData => {}
     }
     given
 }
 
 // Which data cell a kind spoils, 4096 where none.
-fn place_of(kind: u32, nd: usize) -> usize {
+fn place_of(kind: SendKind, nd: usize) -> usize {
     match kind {
-        2 => nd / 2,
-        7 => 0,
+        SendKind::CellTooHigh => nd / 2,
+        SendKind::FillerAsData => 0,
         _ => SYMBOL,
     }
 }
 
 // By what it is spoiled: the number above its limit, or the mark of filler.
-fn cell_of(kind: u32, limit: u16) -> u16 {
-    if kind == 2 {
+fn cell_of(kind: SendKind, limit: u16) -> u16 {
+    if kind == SendKind::CellTooHigh {
         return std::num::wrapping_add_u16(limit, 1);
     }
     0x8001
 }
 
 // The code of the answer to a kind.
-fn code_of(kind: u32) -> u32 {
+fn code_of(kind: SendKind) -> u32 {
     match kind {
-        0 | 1 => 118,
-        2 | 7 => 119,
-        3 | 4 => 116,
-        5 | 6 => 117,
-        _ => SENT,
+        SendKind::CellTooFew | SendKind::CellTooMany => 118,
+        SendKind::CellTooHigh | SendKind::FillerAsData => 119,
+        SendKind::PhaseTooHigh | SendKind::FlushPastLastPhase => 116,
+        SendKind::FlushShortSymbol | SendKind::ShortStore => 117,
+        SendKind::Right => SENT,
     }
 }
 
-// The link after a send with this answer. A state other than the link's own, which the kinds 3 and 4 are given, is not taken back.
-fn told(streams: &mut Standard, link: Link, kind: u32, answer: SendAnswer) -> Link {
+// Whether a kind is given the link's own state: a wrong phase is another.
+fn has_own_state(kind: SendKind) -> bool {
+    match kind {
+        SendKind::PhaseTooHigh | SendKind::FlushPastLastPhase => false,
+        _ => true,
+    }
+}
+
+// The link after a send with this answer. A state other than the link's own is not taken back.
+fn told(
+    streams: &mut Standard,
+    link: Link,
+    kind: SendKind,
+    answer: Result<EmitterState, RefusedStep<EmitterState>>,
+) -> Link {
     let mut next = link;
     let mut got = SENT;
     match answer {
-        SendAnswer::Sent(state) => {
-            next.emitter = state;
-        }
-        SendAnswer::Refused(number, _, back) => {
-            got = refusal(number);
+        Ok(state) => next.emitter = state,
+        Err(step) => {
+            got = refused(step.refusal);
             next.refused = more(link.refused);
-            if code_of(kind) != 116 {
-                next.emitter = back;
+            if has_own_state(kind) {
+                next.emitter = step.state;
             }
         }
     }
@@ -86,7 +135,7 @@ fn told(streams: &mut Standard, link: Link, kind: u32, answer: SendAnswer) -> Li
 pub(crate) fn send(
     streams: &mut Standard,
     link: Link,
-    kind: u32,
+    kind: SendKind,
     nd: usize,
     plan: &[u8],
     profile: &[u8],
@@ -94,7 +143,7 @@ pub(crate) fn send(
     store: &mut [u16; STORE],
     symbol: &mut [u16; SYMBOL],
 ) -> Link {
-    if kind == 6 && link.emitter_need == 0 {
+    if kind == SendKind::ShortStore && link.emitter_need == 0 {
         return link;
     }
     let given = sending(link, kind, nd);

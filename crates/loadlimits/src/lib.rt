@@ -24,11 +24,8 @@ fn fill_limits(limits: &mut [u16; 256])
     requires { limits.old ≡ replicate 256 0 }
     ensures { Limits limits.new }
 {
-    let mut load: u32 = 0;
-    while load <= 14 {
-        let m = load as usize;
-        limits[m] = limit_of(load);
-        load = load + 1;
+    for load in 0..15 {
+        limits[load as usize] = limit_of(load);
     }
 }
 
@@ -63,15 +60,12 @@ fn lowest_unadmitted(limits: &[u16; 256], symbol: &[u16], loads: &[u8]) -> usize
     requires { Limits limits.now × (length loads.now ≡ length symbol.now) }
     ensures { when (ltb result (length symbol.now)) result ≡ lowest (unadmitted symbol.now loads.now) (length symbol.now) }
 {
-    let mut k: usize = 0;
-    while k < symbol.len() {
-        let m = index_of(loads[k]);
-        if !admitted(limits[m], symbol[k]) {
+    for k in 0..symbol.len() {
+        if !admitted(limits[index_of(loads[k])], symbol[k]) {
             return k;
         }
-        k = k + 1;
     }
-    k
+    symbol.len()
 }
 
 // The lowest subcarrier that is refused, or the number of subcarriers. The sign of its pilot refuses none.

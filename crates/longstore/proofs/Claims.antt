@@ -5,9 +5,8 @@ use mathlib.Core.Bool.{true}
 use mathlib.Core.List.{List}
 use lib.ListN.{length}
 use Rattle.rules.specs.declared.Device.{Device}
-use Rattle.rules.specs.declared.Finding.{Finding}
-use Rattle.rules.specs.declared.Finding.TheVariants.{Fine, Ground}
-use Rattle.rules.specs.declared.Verdict.TheVariants.{Accepted}
+use Rattle.rules.specs.Refusals.{Finding}
+use Rattle.std.specs.Prelude.{Ok, Err, is_ok}
 use Rattle.rules.specs.Device.{khz50, phases}
 use Rattle.rules.specs.Plan.{plan_of}
 use Rattle.rules.specs.Grounds.{grounds1to15, verdict}
@@ -20,12 +19,10 @@ use Rattle.verdicts.proofs.Verdicts.{no_ground}
 use Rattle.runs.proofs.Steps.{frame_entries, frame_entries_lem, fresh_in}
 use Rattle.runs.proofs.Hears.{listens_in}
 use Rattle.runs.proofs.Accepts.{start_fine}
-use Rattle.longstore.specs.declared.StartAnswer.TheVariants as a-start
-use Rattle.longstore.specs.declared.ListenAnswer.TheVariants as a-listen
 use Rattle.longstore.specs.Store.{fresh_store, filler_store}
 use Rattle.longstore.specs.Steps.{Starting, starts, refused, short_store, start_grounds, frame_start, frame_step, start_step, send_step}
 use Rattle.longstore.specs.Receive.{Listening, listens, turned_away, frame_listen, frame_receive, listen_step, hear_step}
-use Rattle.longstore.specs.Run.{long_entries, is_started, is_listening}
+use Rattle.longstore.specs.Run.{long_entries}
 use Rattle.longstore.specs.Same.{Same, SameAsLong}
 use Rattle.longstore.proofs.Entries.{long_frame}
 use Rattle.longstore.proofs.Emitters.{emitter_alike}
@@ -34,21 +31,21 @@ use Rattle.longstore.proofs.Receivers.{receiver_alike}
 -- ---- fresh starts with the long store
 
 module _ (F : Frame) (j : ℕ) (lent : List ℕ) (hj : j < F.phases) (fits : F.depth * cells F ≤ length lent) where
-  fine : start_grounds F j lent ≡ Fine
+  fine : start_grounds F j lent ≡ Ok tt
   unfolding start_grounds short_store short.start_grounds short.short_store
   fine = start_fine F j lent hj (F.depth * cells F) fits
 
-  started : is_started (frame_start F j lent).answer ≡ true
+  started : is_ok (frame_start F j lent).answer ≡ true
   unfolding frame_start
   started =
-      let left : Finding → Starting = λ f. elim f [ Fine ↦ starts (a-start.Started (record { phase = j; row = 0 })) (fresh_store F j lent) | Ground n place ↦ starts (a-start.Refused n place) lent ] in
-      ap (λ (f : Finding). is_started (left f).answer) fine
+      let left : Finding → Starting = λ f. elim f [ Ok _ ↦ starts (Ok (record { phase = j; row = 0 })) (fresh_store F j lent) | Err r ↦ starts (Err r) lent ] in
+      ap (λ (f : Finding). is_ok (left f).answer) fine
 
-  listening : is_listening (frame_listen F j lent).answer ≡ true
+  listening : is_ok (frame_listen F j lent).answer ≡ true
   unfolding frame_listen
   listening =
-      let left : Finding → Listening = λ f. elim f [ Fine ↦ listens (a-listen.Started (record { phase = j; row = 0; heard = 0 })) (filler_store F lent) | Ground n place ↦ listens (a-listen.Refused n place) lent ] in
-      ap (λ (f : Finding). is_listening (left f).answer) fine
+      let left : Finding → Listening = λ f. elim f [ Ok _ ↦ listens (Ok (record { phase = j; row = 0; heard = 0 })) (filler_store F lent) | Err r ↦ listens (Err r) lent ] in
+      ap (λ (f : Finding). is_ok (left f).answer) fine
 
 -- ---- the claim
 
@@ -61,20 +58,20 @@ frame_same F ok = record {
 }
 
 -- the entries with the long store of a plan that no ground refuses are those of its frame
-long_entries_lem : (d : Device) (s : List ℕ) → grounds1to15 d s ≡ Fine → long_entries d s ≡ long_frame (frame_of d (plan_of s))
+long_entries_lem : (d : Device) (s : List ℕ) → grounds1to15 d s ≡ Ok tt → long_entries d s ≡ long_frame (frame_of d (plan_of s))
 unfolding start_step send_step listen_step hear_step
 long_entries_lem d s fine = λ i. record {
-  start = λ j lent. elim (fine i) [ Fine ↦ frame_start (frame_of d (plan_of s)) j lent | Ground n place ↦ starts (a-start.Refused n place) lent ];
-  send = λ e a. elim (fine i) [ Fine ↦ frame_step (frame_of d (plan_of s)) e a | Ground n place ↦ refused e a n place ];
-  listen = λ j lent. elim (fine i) [ Fine ↦ frame_listen (frame_of d (plan_of s)) j lent | Ground n place ↦ listens (a-listen.Refused n place) lent ];
-  hear = λ v a. elim (fine i) [ Fine ↦ frame_receive (frame_of d (plan_of s)) v a | Ground n place ↦ turned_away v a n place ];
+  start = λ j lent. elim (fine i) [ Ok _ ↦ frame_start (frame_of d (plan_of s)) j lent | Err r ↦ starts (Err r) lent ];
+  send = λ e a. elim (fine i) [ Ok _ ↦ frame_step (frame_of d (plan_of s)) e a | Err r ↦ refused e a r ];
+  listen = λ j lent. elim (fine i) [ Ok _ ↦ frame_listen (frame_of d (plan_of s)) j lent | Err r ↦ listens (Err r) lent ];
+  hear = λ v a. elim (fine i) [ Ok _ ↦ frame_receive (frame_of d (plan_of s)) v a | Err r ↦ turned_away v a r ];
 }
 
 -- any device whose depths are no more than the phases: every plan that no ground refuses
-pub same_as_long : (d : Device) (s : List ℕ) → d.depth_max ≤ phases → grounds1to15 d s ≡ Fine → SameAsLong d s
+pub same_as_long : (d : Device) (s : List ℕ) → d.depth_max ≤ phases → grounds1to15 d s ≡ Ok tt → SameAsLong d s
 same_as_long d s h fine =
     subst₂ (Same (frame_of d (plan_of s))) (sym (frame_entries_lem d s fine)) (sym (long_entries_lem d s fine)) (frame_same (frame_of d (plan_of s)) (sound d s h fine))
 
 -- every plan that the 50 kHz device accepts
-pub accepted_same : (s : List ℕ) (n : ℕ) → verdict khz50 s ≡ Accepted n → SameAsLong khz50 s
+pub accepted_same : (s : List ℕ) (n : ℕ) → verdict khz50 s ≡ Ok n → SameAsLong khz50 s
 accepted_same s n e = same_as_long khz50 s khz50_roomy.depth (no_ground khz50 s n (sym e))

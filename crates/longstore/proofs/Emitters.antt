@@ -13,20 +13,18 @@ use borrow.Author.Tests.{lt-leb, le-ltb}
 use Rattle.counting.specs.Search.{when, tabulate}
 use Rattle.counting.proofs.Bools.{or_false}
 use Rattle.counting.proofs.Lists.{length_tabulate, get_d_tabulate, get_or-sets_0}
-use Rattle.rules.specs.declared.Finding.{Finding}
-use Rattle.rules.specs.declared.Finding.TheVariants.{Fine, Ground}
-use Rattle.rules.specs.declared.SendAnswer.TheVariants as a-send
+use Rattle.rules.specs.Refusals.{refused_step, Finding, refused_by}
+use Rattle.std.specs.Prelude.{Ok, Err, is_ok}
 use Rattle.rules.specs.Grounds.{◌else◌, ground?}
 use Rattle.rules.specs.Frame.{Frame, cells, delay, next_phase, phase_back, Given, flush, input_cells, line_symbol}
 use Rattle.rules.specs.Store.{emitter_places, fresh_store}
 use Rattle.rules.specs.Steps.{Emitter, Send, Sending, refused, ground16, short_store, ground17, profile_ground, given_grounds, send_grounds, next_state, sent_store, sent_symbol, accepted, frame_step, start_grounds}
 use Rattle.frame.proofs.Cells.{Sound, length_input}
 use Rattle.runs.specs.Results.{send_result}
-use Rattle.runs.specs.Run.{is_sent, emitter_left, sendings, input, sent}
+use Rattle.runs.specs.Run.{emitter_left, sendings, input, sent}
 use Rattle.runs.proofs.Steps.{frame_entries, as_given, not_refused, FreshIn, fresh_emitter}
 use Rattle.runs.proofs.Results.{same_results, same_accepted}
 use Rattle.runs.proofs.Emit.{delay_below, fresh_at, closed_sent, sent_closed}
-use Rattle.longstore.specs.declared.StartAnswer.TheVariants as a-start
 use Rattle.longstore.specs.Store as long-store
 use Rattle.longstore.specs.Store.{cell_at, fresh_cell}
 use Rattle.longstore.specs.Steps as long
@@ -76,18 +74,18 @@ module _ (F : Frame) (ok : Sound F) (e : Emitter) (l : long.Emitter) (a : Send) 
 
   -- the step that finds f, with either store
   after : Finding → Sending
-  after f = elim f [ Fine ↦ accepted F e a.given | Ground n place ↦ refused e a n place ]
+  after f = elim f [ Ok _ ↦ accepted F e a.given | Err r ↦ refused e a r ]
 
   long_after : Finding → long.Sending
-  long_after f = elim f [ Fine ↦ long.accepted F l a.given | Ground n place ↦ long.refused l a n place ]
+  long_after f = elim f [ Ok _ ↦ long.accepted F l a.given | Err r ↦ long.refused l a r ]
 
   same_after : (f : Finding) → SameStep F (after f) (long_after f)
   unfolding after accepted next_state long_after long.accepted long.next_state
-  same_after Fine = (
-    λ i. (a-send.Sent (record { phase = next_phase F (alike.state i).phase }), same_symbol i),
+  same_after (Ok tt) = (
+    λ i. (Ok (record { phase = next_phase F (alike.state i).phase }), same_symbol i),
     record { state = λ i. record { phase = next_phase F (alike.state i).phase }; stores = same_store },
   )
-  same_after (Ground n place) = (λ i. (a-send.Refused n place (alike.state i), a.room), alike)
+  same_after (Err r) = (λ i. (refused_step r (alike.state i), a.room), alike)
 
   same_step : SameStep F (frame_step F e a) (long.frame_step F l a)
   unfolding frame_step after long.frame_step long_after
@@ -134,14 +132,14 @@ module _ (F : Frame) (ok : Sound F) (j : ℕ) (lent : List ℕ) (fits : F.depth 
 
 -- the emitter that an answer and a store make, u where the answer refuses
 emitter_in : long.Emitter → long.Starting → long.Emitter
-emitter_in u x = elim x.answer [ a-start.Started e ↦ record { state = e; store = x.store } | a-start.Refused n place ↦ u ]
+emitter_in u x = elim x.answer [ Ok e ↦ record { state = e; store = x.store } | Err _ ↦ u ]
 
 fresh_alike : (F : Frame) → Sound F → (j : ℕ) (e : Emitter) (l : long.Emitter) → FreshIn F j e → (lent : List ℕ)
-    → long.frame_start F j lent ≡ long.starts (a-start.Started l.state) l.store → Alike F e l
+    → long.frame_start F j lent ≡ long.starts (Ok l.state) l.store → Alike F e l
 unfolding emitter_in start_grounds short_store long.frame_start long.start_grounds long.short_store
 fresh_alike F ok j e l fresh lent start =
-    let r = not_refused F (F.depth * cells F) j lent (long.starts (a-start.Started (record { phase = j; row = 0 })) (long-store.fresh_store F j lent))
-    (λ n place. long.starts (a-start.Refused n place) lent) (λ (x : long.Starting). long-run.is_started x.answer) (long.starts (a-start.Started l.state) l.store) start refl (λ n place. refl) in
+    let r = not_refused F (F.depth * cells F) j lent (long.starts (Ok (record { phase = j; row = 0 })) (long-store.fresh_store F j lent))
+    (λ n place. long.starts (refused_by n place) lent) (λ (x : long.Starting). is_ok x.answer) (long.starts (Ok l.state) l.store) start refl (λ n place. refl) in
     subst (λ (x : long.Starting). Alike F e (emitter_in l x)) r.1 (lent_alike F ok j lent r.0.fits e fresh)
 
 -- ---- a run
@@ -154,12 +152,12 @@ module _ (F : Frame) (ok : Sound F) (j : ℕ) (e : Emitter) (l : long.Emitter) (
   unfolding input long-run.input
   same_inputs steps =
       ap (λ (given : Send → Given). map (λ x. given x.0) (sendings (frame_entries F) e steps)) (λ i a. as_given a.given i)
-      ∙ same_accepted (frame_step F) emitter_left send_result (long.frame_step F) long-run.emitter_left long_send_result (Alike F) (same_step F ok) (λ r. is_sent r.0) (λ a r. a.given) e l steps alike
+      ∙ same_accepted (frame_step F) emitter_left send_result (long.frame_step F) long-run.emitter_left long_send_result (Alike F) (same_step F ok) (λ r. is_ok r.0) (λ a r. a.given) e l steps alike
 
   same_sent : (steps : List Send) → sent (frame_entries F) e steps ≡ long-run.sent (long_frame F) l steps
   unfolding sent long-run.sent
   same_sent steps =
-      same_accepted (frame_step F) emitter_left send_result (long.frame_step F) long-run.emitter_left long_send_result (Alike F) (same_step F ok) (λ r. is_sent r.0) (λ a r. r.1) e l steps alike
+      same_accepted (frame_step F) emitter_left send_result (long.frame_step F) long-run.emitter_left long_send_result (Alike F) (same_step F ok) (λ r. is_ok r.0) (λ a r. r.1) e l steps alike
 
   pub emitter_alike : SameSent (frame_entries F) (long_frame F) e l
   emitter_alike = record {

@@ -13,9 +13,9 @@ use borrow.Author.Tests.{lt-leb, le-ltb}
 use Rattle.counting.specs.Search.{when}
 use Rattle.counting.proofs.Bools.{or_false, by_test}
 use Rattle.counting.proofs.Lists.{get_or-sets_0}
-use Rattle.rules.specs.declared.Finding.{Finding}
-use Rattle.rules.specs.declared.Finding.TheVariants.{Fine, Ground}
-use Rattle.rules.specs.declared.ReceiveAnswer.TheVariants as an-answer
+use Rattle.rules.specs.declared.Heard.TheVariants.{Warming, Data}
+use Rattle.rules.specs.Refusals.{refused_step, Finding, refused_by}
+use Rattle.std.specs.Prelude.{Ok, Err, is_ok}
 use Rattle.rules.specs.Grounds.{◌else◌, ground?}
 use Rattle.rules.specs.Frame.{Frame, cells, filler, line_cells, data_of}
 use Rattle.rules.specs.Places.{receiver_delay, places_before}
@@ -26,12 +26,11 @@ use Rattle.rules.specs.Receive.{Receiver, Arrival, Receiving, turned_away, warmi
 use Rattle.frame.proofs.Cells.{Sound, length_line_cells}
 use Rattle.places.proofs.Kept.{start_grow}
 use Rattle.runs.specs.Results.{receive_result}
-use Rattle.runs.specs.Run.{is_received, receiver_left, outcome_of, heard, outcomes}
+use Rattle.runs.specs.Run.{receiver_left, outcome_of, heard, outcomes}
 use Rattle.runs.proofs.Steps.{frame_entries, not_refused}
 use Rattle.runs.proofs.Hears.{ListensIn, fresh_receiver}
 use Rattle.runs.proofs.Results.{same_results, same_accepted}
 use Rattle.runs.proofs.Outcomes.{closed_outcomes, outcomes_closed}
-use Rattle.longstore.specs.declared.ListenAnswer.TheVariants as a-start
 use Rattle.longstore.specs.Store as long-store
 use Rattle.longstore.specs.Store.{cell_at}
 use Rattle.longstore.specs.Steps as long-steps
@@ -95,20 +94,20 @@ module _ (F : Frame) (ok : Sound F) (v : Receiver) (l : long.Receiver) (a : Arri
   same_received =
       let w : long.warming F l.state ≡ warming F v.state = unfold warming long.warming in sym (ap (warming F) alike.state) in
       by_test (warming F v.state)
-      (λ q. rw (q, w ∙ q) (λ i. (an-answer.Warming (same_state i), a.buffer), left_alike))
-      (λ q. rw (q, w ∙ q) (λ i. (an-answer.Data (same_state i) (out_count F (alike.state i)), sets a.buffer 0 (same_handed i)), left_alike))
+      (λ q. rw (q, w ∙ q) (λ i. (Ok (Warming (same_state i)), a.buffer), left_alike))
+      (λ q. rw (q, w ∙ q) (λ i. (Ok (Data (same_state i) (out_count F (alike.state i))), sets a.buffer 0 (same_handed i)), left_alike))
 
   -- the step that finds f, with either store
   after : Finding → Receiving
-  after f = elim f [ Fine ↦ received F v a | Ground n place ↦ turned_away v a n place ]
+  after f = elim f [ Ok _ ↦ received F v a | Err r ↦ turned_away v a r ]
 
   long_after : Finding → long.Receiving
-  long_after f = elim f [ Fine ↦ long.received F l a | Ground n place ↦ long.turned_away l a n place ]
+  long_after f = elim f [ Ok _ ↦ long.received F l a | Err r ↦ long.turned_away l a r ]
 
   same_after : (f : Finding) → SameStep F (after f) (long_after f)
   unfolding after long_after
-  same_after Fine = same_received
-  same_after (Ground n place) = (λ i. (an-answer.Refused n place (alike.state i), a.buffer), alike)
+  same_after (Ok tt) = same_received
+  same_after (Err r) = (λ i. (refused_step r (alike.state i), a.buffer), alike)
 
   same_step : SameStep F (frame_receive F v a) (long.frame_receive F l a)
   unfolding frame_receive after long.frame_receive long_after
@@ -147,14 +146,14 @@ lent_alike F ok j lent fits v fresh =
 
 -- the receiver that an answer and a store make, u where the answer refuses
 receiver_in : long.Receiver → long.Listening → long.Receiver
-receiver_in u x = elim x.answer [ a-start.Started v ↦ record { state = v; store = x.store } | a-start.Refused n place ↦ u ]
+receiver_in u x = elim x.answer [ Ok v ↦ record { state = v; store = x.store } | Err _ ↦ u ]
 
 fresh_alike : (F : Frame) → Sound F → (j : ℕ) (v : Receiver) (l : long.Receiver) → ListensIn F j v → (lent : List ℕ)
-    → long.frame_listen F j lent ≡ long.listens (a-start.Started l.state) l.store → Alike F v l
+    → long.frame_listen F j lent ≡ long.listens (Ok l.state) l.store → Alike F v l
 unfolding receiver_in start_grounds short_store long.frame_listen long-steps.start_grounds long-steps.short_store
 fresh_alike F ok j v l fresh lent start =
-    let r = not_refused F (F.depth * cells F) j lent (long.listens (a-start.Started (record { phase = j; row = 0; heard = 0 })) (long-store.filler_store F lent))
-    (λ n place. long.listens (a-start.Refused n place) lent) (λ (x : long.Listening). long-run.is_listening x.answer) (long.listens (a-start.Started l.state) l.store) start refl (λ n place. refl) in
+    let r = not_refused F (F.depth * cells F) j lent (long.listens (Ok (record { phase = j; row = 0; heard = 0 })) (long-store.filler_store F lent))
+    (λ n place. long.listens (refused_by n place) lent) (λ (x : long.Listening). is_ok x.answer) (long.listens (Ok l.state) l.store) start refl (λ n place. refl) in
     subst (λ (x : long.Listening). Alike F v (receiver_in l x)) r.1 (lent_alike F ok j lent r.0.fits v fresh)
 
 -- ---- a run
@@ -167,13 +166,13 @@ module _ (F : Frame) (ok : Sound F) (j : ℕ) (v : Receiver) (l : long.Receiver)
   unfolding heard long-run.heard
   same_heard steps =
       same_accepted (frame_receive F) receiver_left receive_result (long.frame_receive F) long-run.receiver_left long_receive_result (Alike F) (same_step F ok)
-      (λ r. is_received r.0) (λ a r. a.symbol) v l steps alike
+      (λ r. is_ok r.0) (λ a r. a.symbol) v l steps alike
 
   same_outcomes : (steps : List Arrival) → outcomes (frame_entries F) v steps ≡ long-run.outcomes (long_frame F) l steps
   unfolding outcomes long-run.outcomes
   same_outcomes steps =
       same_accepted (frame_receive F) receiver_left receive_result (long.frame_receive F) long-run.receiver_left long_receive_result (Alike F) (same_step F ok)
-      (λ r. is_received r.0) (λ a r. outcome_of r.0 r.1) v l steps alike
+      (λ r. is_ok r.0) (λ a r. outcome_of r.0 r.1) v l steps alike
 
   pub receiver_alike : SameReceived (frame_entries F) (long_frame F) v l
   receiver_alike = record {

@@ -1,22 +1,21 @@
 -- What the receiver's entries answer and leave with the long store: grounds 1 to 15 and 25, then 16, 17 and 20 (document 01, "Cells and interleaving", "State"
 -- and "The twenty grounds"; 02, request 07). A refused step changes nothing and hands the state back. The steps of crate rules are compared with these (02,
 -- request 03); no code needs them. Assumes nothing.
-use Rattle.std.specs.Prelude.{ℕ, ◌+◌, ◌-◌, Bool, not, ◌&&◌, ◌||◌, List, leb, ltb, eqb, length}
+use Rattle.std.specs.Prelude.{ℕ, ◌+◌, ◌-◌, Bool, not, ◌&&◌, ◌||◌, List, leb, ltb, eqb, length, Result, Ok, Err}
 use Rattle.std.proofs.lemmas.List.Edits.{sets}
 use Rattle.counting.specs.Search.{pick, when}
 use Rattle.rules.specs.declared.Device.{Device}
-use Rattle.rules.specs.declared.Finding.{Finding}
-use Rattle.rules.specs.declared.Finding.TheVariants.{Fine, Ground}
+use Rattle.rules.specs.declared.Refusal.{Refusal}
+use Rattle.rules.specs.declared.RefusedStep.{RefusedStep}
+use Rattle.rules.specs.declared.Heard.{Heard}
+use Rattle.rules.specs.declared.Heard.TheVariants.{Warming, Data}
+use Rattle.rules.specs.Refusals.{Finding, refused_step}
 use Rattle.rules.specs.Plan.{plan_of}
 use Rattle.rules.specs.Grounds.{◌else◌, ground?, grounds1to15}
 use Rattle.rules.specs.Frame.{Frame, frame_of, cells, delay, next_phase, data_count, line_cells, data_of}
 use Rattle.rules.specs.Loads.{ground25}
 use Rattle.rules.specs.Receive.{Arrival, out_phase, ground20}
 use Rattle.longstore.specs.declared.ReceiverState.{ReceiverState}
-use Rattle.longstore.specs.declared.ListenAnswer.{ListenAnswer}
-use Rattle.longstore.specs.declared.ReceiveAnswer.{ReceiveAnswer}
-use Rattle.longstore.specs.declared.ListenAnswer.TheVariants as a-start
-use Rattle.longstore.specs.declared.ReceiveAnswer.TheVariants as an-answer
 use Rattle.longstore.specs.Store.{put_row, next_row, delayed, filler_store}
 use Rattle.longstore.specs.Steps.{short_store, start_grounds}
 
@@ -27,23 +26,23 @@ pub record Receiver : Type 0 where
 
 -- what a step answers, and the store and the data buffer as it leaves them
 pub record Receiving : Type 0 where
-  pub answer : ReceiveAnswer
+  pub answer : Result (Heard ReceiverState) (RefusedStep ReceiverState)
   pub store : List ℕ
   pub buffer : List ℕ
 
-abbrev pub hears : ReceiveAnswer → List ℕ → List ℕ → Receiving
+abbrev pub hears : Result (Heard ReceiverState) (RefusedStep ReceiverState) → List ℕ → List ℕ → Receiving
 hears r s b = record { answer = r; store = s; buffer = b }
 
 -- what a fresh start answers, and the lent store as it leaves it
 pub record Listening : Type 0 where
-  pub answer : ListenAnswer
+  pub answer : Result ReceiverState Refusal
   pub store : List ℕ
 
-abbrev pub listens : ListenAnswer → List ℕ → Listening
+abbrev pub listens : Result ReceiverState Refusal → List ℕ → Listening
 listens r s = record { answer = r; store = s }
 
-abbrev pub turned_away : Receiver → Arrival → ℕ → ℕ → Receiving
-turned_away v a n place = hears (an-answer.Refused n place v.state) v.store a.buffer
+abbrev pub turned_away : Receiver → Arrival → Refusal → Receiving
+turned_away v a r = hears (refused_step r v.state) v.store a.buffer
 
 module _ (F : Frame) where
   -- warming: exactly while heard is below M - 1
@@ -99,27 +98,27 @@ module _ (F : Frame) where
   unfoldable pub received : Receiver → Arrival → Receiving
   received v a =
       pick (warming v.state)
-      (hears (an-answer.Warming (heard_state v.state)) (heard_store v a.symbol) a.buffer)
-      (hears (an-answer.Data (heard_state v.state) (out_count v.state)) (heard_store v a.symbol) (sets a.buffer 0 (handed v a.symbol)))
+      (hears (Ok (Warming (heard_state v.state))) (heard_store v a.symbol) a.buffer)
+      (hears (Ok (Data (heard_state v.state) (out_count v.state))) (heard_store v a.symbol) (sets a.buffer 0 (handed v a.symbol)))
 
   -- a step under an accepted plan
   unfoldable pub frame_receive : Receiver → Arrival → Receiving
-  frame_receive v a = elim (receive_grounds v a) [ Fine ↦ received v a | Ground n place ↦ turned_away v a n place ]
+  frame_receive v a = elim (receive_grounds v a) [ Ok _ ↦ received v a | Err r ↦ turned_away v a r ]
 
   -- a fresh receiver under an accepted plan: row 0, heard 0, and the store all filler
   unfoldable pub frame_listen : ℕ → List ℕ → Listening
   frame_listen j s =
       elim (start_grounds F j s) [
-        | Fine ↦ listens (a-start.Started (record { phase = j; row = 0; heard = 0 })) (filler_store F s)
-        | Ground n place ↦ listens (a-start.Refused n place) s
+        | Ok _ ↦ listens (Ok (record { phase = j; row = 0; heard = 0 })) (filler_store F s)
+        | Err r ↦ listens (Err r) s
       ]
 
 module _ (d : Device) (s : List ℕ) where
   -- a receive step of any bytes as a plan
   unfoldable pub hear_step : Receiver → Arrival → Receiving
-  hear_step v a = elim (grounds1to15 d s) [ Fine ↦ frame_receive (frame_of d (plan_of s)) v a | Ground n place ↦ turned_away v a n place ]
+  hear_step v a = elim (grounds1to15 d s) [ Ok _ ↦ frame_receive (frame_of d (plan_of s)) v a | Err r ↦ turned_away v a r ]
 
   -- fresh receiver: the starting phase and the lent store
   unfoldable pub listen_step : ℕ → List ℕ → Listening
   listen_step j store =
-      elim (grounds1to15 d s) [ Fine ↦ frame_listen (frame_of d (plan_of s)) j store | Ground n place ↦ listens (a-start.Refused n place) store ]
+      elim (grounds1to15 d s) [ Ok _ ↦ frame_listen (frame_of d (plan_of s)) j store | Err r ↦ listens (Err r) store ]

@@ -1,26 +1,18 @@
 -- Runs of an emitter and of a receiver with the long store: those of crate runs (specs/Run) over its steps (document 01, "Cells and interleaving"). Assumes nothing.
-use Rattle.std.specs.Prelude.{ℕ, ◌≡◌, Bool, true, false, List, map}
+use Rattle.std.specs.Prelude.{ℕ, ◌≡◌, Bool, true, false, List, map, Result, Ok, Err, is_ok}
 use Rattle.rules.specs.declared.Device.{Device}
 use Rattle.rules.specs.declared.EmitterState as short-emitter
 use Rattle.rules.specs.declared.ReceiverState as short-receiver
-use Rattle.rules.specs.declared.SendAnswer as short-send
-use Rattle.rules.specs.declared.ReceiveAnswer as short-receive
-use Rattle.rules.specs.declared.SendAnswer.TheVariants as a-short-send
-use Rattle.rules.specs.declared.ReceiveAnswer.TheVariants as a-short-answer
+use Rattle.rules.specs.declared.RefusedStep.{RefusedStep}
+use Rattle.rules.specs.declared.Heard.{Heard}
+use Rattle.rules.specs.declared.Heard.TheVariants.{Warming, Data}
+use Rattle.rules.specs.Refusals.{SendAnswer, ReceiveAnswer, refused_step}
 use Rattle.rules.specs.Frame.{Given}
 use Rattle.rules.specs.Steps.{Send}
 use Rattle.rules.specs.Receive.{Arrival}
-use Rattle.runs.specs.Run.{accepted_steps, is_sent, is_received, Outcome, outcome_of}
+use Rattle.runs.specs.Run.{accepted_steps, state_of, state_heard, Outcome, outcome_of}
 use Rattle.longstore.specs.declared.EmitterState.{EmitterState}
 use Rattle.longstore.specs.declared.ReceiverState.{ReceiverState}
-use Rattle.longstore.specs.declared.StartAnswer.{StartAnswer}
-use Rattle.longstore.specs.declared.SendAnswer.{SendAnswer}
-use Rattle.longstore.specs.declared.ListenAnswer.{ListenAnswer}
-use Rattle.longstore.specs.declared.ReceiveAnswer.{ReceiveAnswer}
-use Rattle.longstore.specs.declared.SendAnswer.TheVariants as a-send
-use Rattle.longstore.specs.declared.ReceiveAnswer.TheVariants as an-answer
-use Rattle.longstore.specs.declared.StartAnswer.TheVariants as an-emitter
-use Rattle.longstore.specs.declared.ListenAnswer.TheVariants as a-receiver
 use Rattle.longstore.specs.Steps.{Emitter, Sending, Starting, starts, start_step, send_step}
 use Rattle.longstore.specs.Receive.{Receiver, Receiving, Listening, listens, listen_step, hear_step}
 
@@ -43,21 +35,16 @@ emitter_without_row e = record { phase = e.phase }
 abbrev pub receiver_without_row : ReceiverState → short-receiver.ReceiverState
 receiver_without_row v = record { phase = v.phase; heard = v.heard }
 
-abbrev pub send_without_row : SendAnswer → short-send.SendAnswer
-send_without_row (a-send.Sent e) = a-short-send.Sent (emitter_without_row e)
-send_without_row (a-send.Refused n place e) = a-short-send.Refused n place (emitter_without_row e)
+abbrev pub send_without_row : Result EmitterState (RefusedStep EmitterState) → SendAnswer
+send_without_row (Ok e) = Ok (emitter_without_row e)
+send_without_row (Err r) = refused_step r.refusal (emitter_without_row r.state)
 
-abbrev pub receive_without_row : ReceiveAnswer → short-receive.ReceiveAnswer
-receive_without_row (an-answer.Warming v) = a-short-answer.Warming (receiver_without_row v)
-receive_without_row (an-answer.Data v n) = a-short-answer.Data (receiver_without_row v) n
-receive_without_row (an-answer.Refused n place v) = a-short-answer.Refused n place (receiver_without_row v)
+abbrev pub receive_without_row : Result (Heard ReceiverState) (RefusedStep ReceiverState) → ReceiveAnswer
+receive_without_row (Ok (Warming v)) = Ok (Warming (receiver_without_row v))
+receive_without_row (Ok (Data v n)) = Ok (Data (receiver_without_row v) n)
+receive_without_row (Err r) = refused_step r.refusal (receiver_without_row r.state)
 
 -- ---- an emitter's run
-
--- the state that an answer returns
-abbrev pub state_of : SendAnswer → EmitterState
-state_of (a-send.Sent e) = e
-state_of (a-send.Refused n place e) = e
 
 -- the next step is given the state that this one returned and the store as it left it
 abbrev pub emitter_left : Sending → Emitter
@@ -65,7 +52,7 @@ emitter_left r = record { state = state_of r.answer; store = r.store }
 
 module _ (L : LongEntries) (e : Emitter) (steps : List Send) where
   abbrev pub sendings : List (Send × Sending)
-  sendings = accepted_steps L.send (λ r. is_sent (send_without_row r.answer)) emitter_left e steps
+  sendings = accepted_steps L.send (λ r. is_ok (send_without_row r.answer)) emitter_left e steps
 
   -- the run's input: what its accepted steps were given
   unfoldable pub input : List Given
@@ -75,28 +62,19 @@ module _ (L : LongEntries) (e : Emitter) (steps : List Send) where
   unfoldable pub sent : List (List ℕ)
   sent = map (λ x. x.1.symbol) sendings
 
-abbrev pub is_started : StartAnswer → Bool
-is_started (an-emitter.Started e) = true
-is_started (an-emitter.Refused n place) = false
-
 -- e is what a fresh start at phase j left, in some lent store
 pub record Fresh (L : LongEntries) (j : ℕ) (e : Emitter) : Type 0 where
   pub lent : List ℕ
-  pub start : L.start j lent ≡ starts (an-emitter.Started e.state) e.store
+  pub start : L.start j lent ≡ starts (Ok e.state) e.store
 
 -- ---- a receiver's run
-
-abbrev pub state_heard : ReceiveAnswer → ReceiverState
-state_heard (an-answer.Warming v) = v
-state_heard (an-answer.Data v n) = v
-state_heard (an-answer.Refused n place v) = v
 
 abbrev pub receiver_left : Receiving → Receiver
 receiver_left r = record { state = state_heard r.answer; store = r.store }
 
 module _ (L : LongEntries) (v : Receiver) (steps : List Arrival) where
   abbrev pub receivings : List (Arrival × Receiving)
-  receivings = accepted_steps L.hear (λ r. is_received (receive_without_row r.answer)) receiver_left v steps
+  receivings = accepted_steps L.hear (λ r. is_ok (receive_without_row r.answer)) receiver_left v steps
 
   -- the symbols that the accepted steps were given
   unfoldable pub heard : List (List ℕ)
@@ -106,11 +84,7 @@ module _ (L : LongEntries) (v : Receiver) (steps : List Arrival) where
   unfoldable pub outcomes : List Outcome
   outcomes = map (λ x. outcome_of (receive_without_row x.1.answer) x.1.buffer) receivings
 
-abbrev pub is_listening : ListenAnswer → Bool
-is_listening (a-receiver.Started v) = true
-is_listening (a-receiver.Refused n place) = false
-
 -- v is what a receiver's fresh start at phase j left, in some lent store
 pub record FreshReceiver (L : LongEntries) (j : ℕ) (v : Receiver) : Type 0 where
   pub lent : List ℕ
-  pub start : L.listen j lent ≡ listens (a-receiver.Started v.state) v.store
+  pub start : L.listen j lent ≡ listens (Ok v.state) v.store

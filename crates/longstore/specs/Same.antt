@@ -1,9 +1,8 @@
 -- From a fresh start the emitted symbols and the data handed out are the same as from the long store (document 02, request 03). Runs with the short
 -- store are those of crate runs, runs with the long store those of specs/Run. Statements only. Assumes nothing.
-use Rattle.std.specs.Prelude.{ℕ, ◌*◌, ◌≤◌, ◌<◌, ◌≡◌, true, List, length}
+use Rattle.std.specs.Prelude.{ℕ, ◌*◌, ◌≤◌, ◌<◌, ◌≡◌, true, List, length, is_ok}
 use Rattle.rules.specs.declared.Device.{Device}
-use Rattle.rules.specs.declared.SendAnswer.{SendAnswer}
-use Rattle.rules.specs.declared.ReceiveAnswer.{ReceiveAnswer}
+use Rattle.rules.specs.Refusals.{SendAnswer, ReceiveAnswer}
 use Rattle.rules.specs.Plan.{plan_of}
 use Rattle.rules.specs.Frame.{Frame, frame_of, cells}
 use Rattle.rules.specs.Steps.{Emitter, Send}
@@ -13,7 +12,7 @@ use Rattle.runs.specs.Run.{Entries, cell_entries, emitter_left, input, sent, Fre
 use Rattle.longstore.specs.Steps as long
 use Rattle.longstore.specs.Receive as long-receive
 use Rattle.longstore.specs.Run as long-run
-use Rattle.longstore.specs.Run.{LongEntries, long_entries, send_without_row, receive_without_row, is_started, is_listening}
+use Rattle.longstore.specs.Run.{LongEntries, long_entries, send_without_row, receive_without_row}
 
 -- ---- the results of steps with the long store, those of specs/Results of crate runs
 
@@ -51,8 +50,8 @@ pub record Same (F : Frame) (E : Entries) (L : LongEntries) : Type 0 where
   pub emitted : (j : ℕ) (e : Emitter) (l : long.Emitter) → Fresh E j e → long-run.Fresh L j l → SameSent E L e l
   pub received : (j : ℕ) (v : Receiver) (l : long-receive.Receiver) → FreshReceiver E j v → long-run.FreshReceiver L j l → SameReceived E L v l
   -- and no fresh start with the long store, at a phase below 128 and in at least M times N_I cells, is refused
-  pub started : (j : ℕ) (lent : List ℕ) → j < F.phases → F.depth * cells F ≤ length lent → is_started (L.start j lent).answer ≡ true
-  pub listens : (j : ℕ) (lent : List ℕ) → j < F.phases → F.depth * cells F ≤ length lent → is_listening (L.listen j lent).answer ≡ true
+  pub started : (j : ℕ) (lent : List ℕ) → j < F.phases → F.depth * cells F ≤ length lent → is_ok (L.start j lent).answer ≡ true
+  pub listens : (j : ℕ) (lent : List ℕ) → j < F.phases → F.depth * cells F ≤ length lent → is_ok (L.listen j lent).answer ≡ true
 
 -- the claim, for the device d and a plan's bytes s
 abbrev pub SameAsLong : Device → List ℕ → Type 0

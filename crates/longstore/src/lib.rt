@@ -1,10 +1,10 @@
 // The long store, M rows of N_I cells with a row in the states, as document 01 has it ("Cells and interleaving", "State"): the definitions of its
-// steps (specs/), and the theorem that from a fresh start the short store gives the same (02, request 03). No code needs it. The types are those
+// steps (specs/), and the theorem that from a fresh start the short store gives the same (02, request 03). No code needs it. The states are those
 // that have a row; fields are spelled as in the definitions. The function does nothing; its contract is the theorem.
 #![tactic(auto)]
 
-ghost use Rattle.std.specs.Prelude.{ℕ, ◌≡◌, List};
-ghost use Rattle.rules.specs.declared.Verdict.TheVariants.{Accepted};
+ghost use Rattle.std.specs.Prelude.{ℕ, ◌≡◌, List, Ok};
+ghost use Rattle.rules.specs.Refusals.{StartAnswer, ListenAnswer, SendAnswer, ReceiveAnswer};
 ghost use Rattle.rules.specs.Device.{khz50};
 ghost use Rattle.rules.specs.Grounds.{verdict};
 ghost use Rattle.longstore.specs.Same.{SameAsLong};
@@ -16,20 +16,6 @@ pub struct EmitterState {
     pub row: u32,
 }
 
-// The answer of a fresh start: the state, or refused with number and place.
-#[derive(Clone, Copy)]
-pub enum StartAnswer {
-    Started(EmitterState),
-    Refused(u32, u32),
-}
-
-// The answer of an emit or flush step: sent with the next state, or refused with number, place and the state as it was given.
-#[derive(Clone, Copy)]
-pub enum SendAnswer {
-    Sent(EmitterState),
-    Refused(u32, u32, EmitterState),
-}
-
 // The state of a receiver: phase and row of its next step, and how many symbols it has heard, up to M - 1.
 #[derive(Clone, Copy)]
 pub struct ReceiverState {
@@ -38,23 +24,7 @@ pub struct ReceiverState {
     pub heard: u32,
 }
 
-// The answer of a receiver's fresh start: the state, or refused with number and place.
-#[derive(Clone, Copy)]
-pub enum ListenAnswer {
-    Started(ReceiverState),
-    Refused(u32, u32),
-}
-
-// The answer of a receive step: warming with the next state, data with the next state and the count, or refused with number, place
-// and the state as it was given.
-#[derive(Clone, Copy)]
-pub enum ReceiveAnswer {
-    Warming(ReceiverState),
-    Data(ReceiverState, u32),
-    Refused(u32, u32, ReceiverState),
-}
-
 // Every accepted plan: from a fresh start the symbols sent and the data handed out are those of the long store.
 pub fn same_as_long()
-    ensures { (s : List ℕ) (n : ℕ) → verdict khz50 s ≡ Accepted n → SameAsLong khz50 s }
+    ensures { (s : List ℕ) (n : ℕ) → verdict khz50 s ≡ Ok n → SameAsLong khz50 s }
 {}

@@ -3,7 +3,7 @@ use Prim.Native.Nat.{ℕ, zero, suc, ◌+◌, ◌≤◌, ◌<◌}
 use mathlib.Core.Path.{◌≡◌, refl, sym, ap, ap₂, ◌∙◌, subst}
 use mathlib.Core.Bool.{Bool, true, false, not, ◌||◌, or_assoc, or_comm}
 use mathlib.Core.List.{List, [], ◌∷◌, map}
-use mathlib.Core.Option.{none, some}
+use Rattle.std.specs.Prelude.{Some, None}
 use native.Mathlib.Numerals.{add-one}
 use native.Mathlib.Omega.{arith}
 use lib.Dec.{eqb}
@@ -115,7 +115,7 @@ module _ (d : Device) (p : Plan) (pil rec : List ℕ) (np : ℕ) (start : List �
         let k = get_or pil q 0 in
         ap (λ (x : ℕ). eqb x 0) (w.cells.cell k (given.below q h)) ∙ clear_test (excluded p k) (in_plc d p k) (one_of k (predefined d p.plc)) (any (names k) w.earlier)
 
-    pub clash_here : eqb (get_or m (get_or pil q 0) 0) 0 ≡ false → some (get_or rec q 0) ≡ pilot_clash d p [] p.pilots
+    pub clash_here : eqb (get_or m (get_or pil q 0) 0) 0 ≡ false → Some (get_or rec q 0) ≡ pilot_clash d p [] p.pilots
     clash_here z = sym (step true (not-false (clashes (get_or pil q 0)) (sym clear_is ∙ z)))
 
     -- where the cell is clear the pilot may stand
@@ -149,11 +149,11 @@ module _ (d : Device) (p : Plan) (pil rec : List ℕ) (np : ℕ) (start : List �
         turn : (t a x y : Bool) → x ≡ y → (t || (x || a)) ≡ ((t || a) || y)
         turn t a x y e = ap (λ (b : Bool). t || b) (or_comm x a) ∙ sym (or_assoc t a x) ∙ ap (λ (b : Bool). (t || a) || b) e
 
-  pub clash_end : np ≤ q → (none ≡ pilot_clash d p [] p.pilots) × Marked d p m
+  pub clash_end : np ≤ q → (None ≡ pilot_clash d p [] p.pilots) × Marked d p m
   unfolding pilot_clash with_pilots any continuous
   clash_end h = go w.rest refl
     where
-      go : (r : List Entry) → w.rest ≡ r → (none ≡ pilot_clash d p [] p.pilots) × Marked d p m
+      go : (r : List Entry) → w.rest ≡ r → (None ≡ pilot_clash d p [] p.pilots) × Marked d p m
       go [] e = (
         sym (w.same ∙ ap (pilot_clash d p w.earlier) e),
         cells_same d.subcarriers (with_pilots d p (so_far d p w.earlier)) (mark d p) m (λ k l. ap (λ (b : Bool). first_mark (excluded p k) (in_plc d p k) (one_of k (predefined d p.plc) || b)) (sym (all k e)) ∙ sym (mark_is d p k)) w.cells,

@@ -4,7 +4,6 @@
 
 ghost use Rattle.std.specs.Prelude.{◌≤◌, ◌≡◌, [], length};
 ghost use Rattle.counting.specs.Search.{is_zero};
-ghost use Rattle.counting.specs.Answer.{place_of};
 ghost use Rattle.rules.specs.Plan.{plan_of};
 ghost use Rattle.rules.specs.Bands.{excluded};
 ghost use Rattle.rules.specs.Grounds.{outside, around_plc, pilot_clash};
@@ -12,8 +11,8 @@ ghost use Rattle.rules.specs.Fits.{Fits, capacity};
 ghost use Rattle.marks.specs.Marked.{Cells, grounds6to8, MarkedIf, Ready};
 ghost use Rattle.marks.specs.Stages.{FirstOf, painted, Placed, AfterPilots};
 
-use counting::{Found, wide};
-use rules::{Device, Finding};
+use counting::wide;
+use rules::{Device, Refusal};
 
 // The mark of a continuous pilot.
 const CONTINUOUS: u16 = 0x8003;
@@ -23,43 +22,41 @@ fn first_from(m: &[u16; 4096], a: usize, b: usize, clear: bool) -> usize
     requires { (a ≤ b) × (b ≤ capacity) }
     ensures { FirstOf clear (is_zero m.now) a b result }
 {
-    let mut k = a;
-    while k < b {
+    for k in a..b {
         if (m[k] == 0) == clear {
             return k;
         }
-        k += 1;
     }
-    k
+    b
 }
 
 // Ground 6: a subcarrier outside the range of active ones is active.
-fn ground6(d: Device, plan: &[u8], m: &[u16; 4096]) -> Found
+fn ground6(d: Device, plan: &[u8], m: &[u16; 4096]) -> Option<u32>
     requires { Fits d × Cells d.subcarriers (painted (excluded (plan_of plan.now))) m.now }
-    ensures { place_of result ≡ outside d (plan_of plan.now) }
+    ensures { result ≡ outside d (plan_of plan.now) }
 {
     let k = first_from(m, 0, d.low_active, true);
     if k < d.low_active {
-        return Found::At(k as u32);
+        return Some(k as u32);
     }
     let j = first_from(m, d.high_active + 1, d.subcarriers, true);
     if j < d.subcarriers {
-        return Found::At(j as u32);
+        return Some(j as u32);
     }
-    Found::Nothing
+    None
 }
 
 // Ground 7: a subcarrier around the PLC is excluded.
-fn ground7(d: Device, plan: &[u8], m: &[u16; 4096], l: usize) -> Found
+fn ground7(d: Device, plan: &[u8], m: &[u16; 4096], l: usize) -> Option<u32>
     requires { Fits d × Cells d.subcarriers (painted (excluded (plan_of plan.now))) m.now × (l ≡ (plan_of plan.now).plc) × (d.low_plc ≤ l) × (l ≤ d.high_plc) }
-    ensures { place_of result ≡ around_plc d (plan_of plan.now) }
+    ensures { result ≡ around_plc d (plan_of plan.now) }
 {
     let end = l + d.plc_width + d.plc_margin;
     let k = first_from(m, l - d.plc_margin, end, false);
     if k < end {
-        return Found::At(k as u32);
+        return Some(k as u32);
     }
-    Found::Nothing
+    None
 }
 
 // Ground 8: a kind 3 pilot stands on a mark. Those before it are marked.
@@ -70,20 +67,18 @@ fn ground8(
     rec: &[u16; 128],
     np: usize,
     m: &mut [u16; 4096],
-) -> Found
+) -> Option<u32>
     requires { Placed d (plan_of plan.now) pil.now rec.now np m.old }
-    ensures { (place_of result ≡ pilot_clash d (plan_of plan.now) [] (plan_of plan.now).pilots) × AfterPilots result d (plan_of plan.now) m.new }
+    ensures { (result ≡ pilot_clash d (plan_of plan.now) [] (plan_of plan.now).pilots) × AfterPilots result d (plan_of plan.now) m.new }
 {
-    let mut q: usize = 0;
-    while q < np {
+    for q in 0..np {
         let k = wide(pil[q]);
         if m[k] != 0 {
-            return Found::At(wide(rec[q]) as u32);
+            return Some(u32::from(rec[q]));
         }
         m[k] = CONTINUOUS;
-        q += 1;
     }
-    Found::Nothing
+    None
 }
 
 // Grounds 6 to 8; where none holds, m is left with the mark of every subcarrier.
@@ -98,20 +93,29 @@ pub fn grounds_6_to_8(
     np: usize,
     l: usize,
     m: &mut [u16; 4096],
-) -> Finding
+) -> Result<(), Refusal>
     requires { Ready d (plan_of plan.now) lo.now hi.now n pil.now rec.now np l m.old }
     ensures { (result ≡ grounds6to8 d (plan_of plan.now)) × MarkedIf result d (plan_of plan.now) m.new × (length m.new ≡ capacity) }
 {
     marks::paint(plan, d.subcarriers, lo, hi, n, m);
-    if let Found::At(k) = ground6(d, plan, m) {
-        return Finding::Ground(6, k);
+    if let Some(k) = ground6(d, plan, m) {
+        return Err(Refusal {
+            number: 6,
+            place: k,
+        });
     }
-    if let Found::At(k) = ground7(d, plan, m, l) {
-        return Finding::Ground(7, k);
+    if let Some(k) = ground7(d, plan, m, l) {
+        return Err(Refusal {
+            number: 7,
+            place: k,
+        });
     }
     marks::mark_fixed(d, plan, m, l);
     match ground8(d, plan, pil, rec, np, m) {
-        Found::At(k) => Finding::Ground(8, k),
-        Found::Nothing => Finding::Fine,
+        Some(k) => Err(Refusal {
+            number: 8,
+            place: k,
+        }),
+        None => Ok(()),
     }
 }

@@ -3,7 +3,7 @@ use Prim.Native.Nat.{ℕ, ◌+◌, ◌-◌, ◌≤◌, ◌<◌}
 use mathlib.Core.Path.{◌≡◌, sym, ap, ap₂, ◌∙◌}
 use mathlib.Core.Logic.{◌⊎◌, inl, inr}
 use mathlib.Core.Bool.{Bool, true, false, not, ◌&&◌, ◌||◌, true≢false}
-use mathlib.Core.Option.{none, some}
+use Rattle.std.specs.Prelude.{Some, None}
 use native.Mathlib.Omega.{arith}
 use lib.Dec.{ltb, leb}
 use borrow.Author.Tests.{lt-ltb, le-ltb, le-leb, lt-leb}
@@ -34,7 +34,7 @@ module _ (d : Device) (p : Plan) (fits : Fits d) where
   unfolding active
   here k h e t = ap₂ (λ (b c : Bool). (b && not c) && (ltb k d.low_active || ltb d.high_active k)) (lt-ltb k d.subcarriers h) e ∙ t
 
-  pub six_low : (k : ℕ) → FirstOf false (excluded p) 0 d.low_active k → k < d.low_active → some k ≡ outside d p
+  pub six_low : (k : ℕ) → FirstOf false (excluded p) 0 d.low_active k → k < d.low_active → Some k ≡ outside d p
   unfolding outside
   six_low k f l =
       let w : k < d.subcarriers = omega (arith, fits.rise, fits.top) in
@@ -49,14 +49,14 @@ module _ (d : Device) (p : Plan) (fits : Fits d) where
         go (inr (a, _)) (inr (b, _)) = inside i a b
         go (inr (a, _)) (inl (b, _)) = idle i (g.none i (omega arith) h)
 
-    pub six_high : j < d.subcarriers → some j ≡ outside d p
+    pub six_high : j < d.subcarriers → Some j ≡ outside d p
     unfolding outside
     six_high h =
         sym (lowest_at out j d.subcarriers h
         (here j h (g.some h) (ap₂ (λ (x y : Bool). x || y) (le-ltb j d.low_active (omega (arith, g.low, fits.rise))) (lt-ltb d.high_active j (omega (arith, g.low)))))
         (λ i a b. below i b))
 
-    pub six_none : d.subcarriers ≤ j → none ≡ outside d p
+    pub six_none : d.subcarriers ≤ j → None ≡ outside d p
     unfolding outside
     six_none h = sym (none_lowest out d.subcarriers (λ i b. below i (omega arith)))
 
@@ -82,14 +82,14 @@ module _ (d : Device) (p : Plan) (fits : Fits d) (l : ℕ) (plc : l ≡ p.plc) (
           ap (λ (x : Bool). (excluded p k && leb p.plc (k + d.plc_margin)) && x) (le-ltb k (p.plc + d.plc_width + d.plc_margin) (omega arith))
           ∙ and_false (excluded p k && leb p.plc (k + d.plc_margin))
 
-  pub seven_some : r < l + d.plc_width + d.plc_margin → some r ≡ around_plc d p
+  pub seven_some : r < l + d.plc_width + d.plc_margin → Some r ≡ around_plc d p
   unfolding around_plc
   seven_some h =
       sym (lowest_at (near d p) r d.subcarriers (omega (arith, fits.plc_high))
       (ap₂ (λ (x y : Bool). x && y && ltb r (p.plc + d.plc_width + d.plc_margin)) (f.some h) (le-leb p.plc (r + d.plc_margin) (omega (arith, f.low))) ∙ lt-ltb r (p.plc + d.plc_width + d.plc_margin) (omega arith))
       (λ k _ u. clear k (inl u)))
 
-  pub seven_none : l + d.plc_width + d.plc_margin ≤ r → none ≡ around_plc d p
+  pub seven_none : l + d.plc_width + d.plc_margin ≤ r → None ≡ around_plc d p
   unfolding around_plc
   seven_none h = sym (none_lowest (near d p) d.subcarriers (λ k u. clear k (inr h)))
 

@@ -3,13 +3,12 @@ use Prim.Native.Nat.{ℕ, ◌<◌}
 use mathlib.Core.Path.{◌≡◌, refl, sym, ap, ◌∙◌}
 use mathlib.Core.Bool.{Bool, true, false, not, ◌&&◌}
 use mathlib.Core.List.{List, []}
-use mathlib.Core.Option.{Option, none, some}
 use native.Mathlib.Omega.{arith}
 use lib.Dec.{eqb}
 use lib.ListN.{get_or}
 use borrow.Author.Tests.{lt-ltb}
 use Rattle.rules.specs.declared.Device.{Device}
-use Rattle.rules.specs.declared.Finding.TheVariants.{Fine}
+use Rattle.std.specs.Prelude.{Ok, Option, Some, None}
 use Rattle.rules.specs.Plan.{Plan}
 use Rattle.rules.specs.Bands.{excluded, active}
 use Rattle.rules.specs.Roles.{in_plc, continuous, ranked, first_mark}
@@ -36,11 +35,11 @@ unfolding grounds6to8
 found_is d p a b c x y z = sym (λ i. ground? 6 (x i) else ground? 7 (y i) else ground? 8 (z i))
 
 -- where none of grounds 6 to 8 holds, 6 and 7 hold nowhere
-pub early_fine : (d : Device) (p : Plan) → Fine ≡ grounds6to8 d p → (none ≡ outside d p) × (none ≡ around_plc d p)
+pub early_fine : (d : Device) (p : Plan) → Ok tt ≡ grounds6to8 d p → (None ≡ outside d p) × (None ≡ around_plc d p)
 unfolding grounds6to8
 early_fine d p = go (outside d p) (around_plc d p) (pilot_clash d p [] p.pilots)
   where
-    go : (a b c : Option ℕ) → Fine ≡ (ground? 6 a else ground? 7 b else ground? 8 c) → (none ≡ a) × (none ≡ b)
-    go none none c h = (refl, refl)
-    go none (some k) c h = absurd (let z : ◌≡◌ {A = ℕ} 0 1 = cc in omega arith)
-    go (some k) b c h = absurd (let z : ◌≡◌ {A = ℕ} 0 1 = cc in omega arith)
+    go : (a b c : Option ℕ) → Ok tt ≡ (ground? 6 a else ground? 7 b else ground? 8 c) → (None ≡ a) × (None ≡ b)
+    go None None c h = (refl, refl)
+    go None (Some k) c h = absurd (let z : ◌≡◌ {A = ℕ} 0 1 = cc in omega arith)
+    go (Some k) b c h = absurd (let z : ◌≡◌ {A = ℕ} 0 1 = cc in omega arith)

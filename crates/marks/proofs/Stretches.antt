@@ -34,7 +34,7 @@ between_more a b k l = go (decide k b) (decide_eq k b)
         above : b ≤ k → (k ≡ b → ⊥) → b + 1 ≤ k
         above h differ = omega arith
 
-between_in : (a b k : ℕ) → between a b k ≡ true → (a ≤ k) × (k < b)
+pub between_in : (a b k : ℕ) → between a b k ≡ true → (a ≤ k) × (k < b)
 between_in a b k e = go (decide k a) (decide k b)
   where
     go : Less k a → Less k b → (a ≤ k) × (k < b)
@@ -42,7 +42,7 @@ between_in a b k e = go (decide k a) (decide k b)
     go (inr (h, _)) (inl (g, _)) = (h, g)
     go (inr (h, _)) (inr (g, f)) = absurd (true≢false (sym e ∙ ap (λ (x : Bool). leb a k && x) f ∙ and_false (leb a k)))
 
-between_out : (a b k : ℕ) → between a b k ≡ false → (k < a) ⊎ (b ≤ k)
+pub between_out : (a b k : ℕ) → between a b k ≡ false → (k < a) ⊎ (b ≤ k)
 between_out a b k e = go (decide k a) (decide k b)
   where
     go : Less k a → Less k b → (k < a) ⊎ (b ≤ k)
@@ -67,9 +67,6 @@ stamp_more v t u a l m w h more = record {
     there k e (inl (same, _)) = ap (λ (x : ℕ). get_or (set m a v) x 0) same ∙ get_or-set_same m a v 0 (omega (arith, w.long))
     there k e (inr (differ, f)) = get_or-set_other m a k v 0 differ ∙ w.here k (sym (ap (λ (b : Bool). t k || b) f ∙ or_false (t k)) ∙ e)
 
-pub stamp_same : (v : ℕ) (t u : ℕ → Bool) (l m : List ℕ) → ((k : ℕ) → t k ≡ u k) → Stamped v t l m → Stamped v u l m
-stamp_same v t u l m same w = record { long = w.long; here = λ k e. w.here k (same k ∙ e); other = λ k e. w.other k (same k ∙ e) }
-
 -- two tests that agree, and two that do not
 pub beq_true : (a b : Bool) → beq a b ≡ true → a ≡ b
 beq_true true true e = refl
@@ -83,10 +80,7 @@ beq_false true false e = refl
 beq_false false true e = refl
 beq_false false false e = absurd (true≢false e)
 
--- a loop that looks for the first: nothing passed, and one more passed
-pub look_start : (t : Bool) (e : ℕ → Bool) (a k : ℕ) → a ≤ k → k < a → e k ≡ not t
-look_start t e a k g h = absurd (omega arith)
-
+-- a loop that looks for the first: one more passed
 pub look_more : (t : Bool) (e : ℕ → Bool) (a b : ℕ) → ((k : ℕ) → a ≤ k → k < b → e k ≡ not t) → e b ≡ not t → (k : ℕ) → a ≤ k → k < b + 1 → e k ≡ not t
 look_more t e a b h w k g l = go (decide k b)
   where

@@ -1,9 +1,8 @@
 -- The exact marks of all subcarriers in an array, grounds 6 to 8, and what they are tried on. Assumes nothing.
-use Rattle.std.specs.Prelude.{ℕ, ◌≤◌, ◌<◌, ◌≡◌, List, [], map, length, get_or, take}
+use Rattle.std.specs.Prelude.{ℕ, ◌≤◌, ◌<◌, ◌≡◌, List, [], map, length, get_or, take, Ok, Err}
 use Rattle.counting.specs.Runs.{Runs}
 use Rattle.rules.specs.declared.Device.{Device}
-use Rattle.rules.specs.declared.Finding.{Finding}
-use Rattle.rules.specs.declared.Finding.TheVariants.{Fine, Ground}
+use Rattle.rules.specs.Refusals.{Finding}
 use Rattle.rules.specs.Plan.{Entry, Plan}
 use Rattle.rules.specs.Bands.{excluded}
 use Rattle.rules.specs.Roles.{mark}
@@ -25,8 +24,8 @@ grounds6to8 d p = ground? 6 (outside d p) else ground? 7 (around_plc d p) else g
 
 -- the marks are there where no ground was found
 abbrev pub MarkedIf : Finding → Device → Plan → List ℕ → Type 0
-MarkedIf Fine d p m = Marked d p m
-MarkedIf (Ground n place) d p m = Unit {0}
+MarkedIf (Ok tt) d p m = Marked d p m
+MarkedIf (Err r) d p m = Unit {0}
 
 -- what grounds 6 to 8 are tried on: the n runs of excluded subcarriers, the numbers and records of the np kind 3 pilots, L, and an array to paint
 pub record Ready (d : Device) (p : Plan) (lo hi : List ℕ) (n : ℕ) (pil rec : List ℕ) (np l : ℕ) (m : List ℕ) : Type 0 where

@@ -1,8 +1,5 @@
 -- The stages in which the marks are painted, and what the loops over the array find. Assumes nothing.
-use Rattle.std.specs.Prelude.{ℕ, ◌≤◌, ◌<◌, ◌≡◌, Bool, true, false, not, ◌&&◌, List, map, leb, ltb, length, get_or, take}
-use Rattle.std.proofs.Math.Option.{none}
-use Rattle.counting.specs.declared.Found.{Found}
-use Rattle.counting.specs.declared.Found.TheVariants.{At, Nothing}
+use Rattle.std.specs.Prelude.{ℕ, ◌≤◌, ◌<◌, ◌≡◌, Bool, true, false, not, ◌&&◌, List, map, leb, ltb, length, get_or, take, None, Some, Option}
 use Rattle.rules.specs.declared.Device.{Device}
 use Rattle.rules.specs.Plan.{Entry, Plan}
 use Rattle.rules.specs.Bands.{excluded}
@@ -46,7 +43,7 @@ pub record Free (d : Device) (p : Plan) (l : ℕ) : Type 0 where
   pub plc : l ≡ p.plc
   pub low : d.low_plc ≤ l
   pub high : l ≤ d.high_plc
-  pub around : none ≡ around_plc d p
+  pub around : None ≡ around_plc d p
 
 -- the excluded, the PLC and the predefined pilots are marked, and the numbers and records of the np kind 3 pilots are in arrays
 pub record Placed (d : Device) (p : Plan) (pil rec : List ℕ) (np : ℕ) (m : List ℕ) : Type 0 where
@@ -60,6 +57,6 @@ pub record Placed (d : Device) (p : Plan) (pil rec : List ℕ) (np : ℕ) (m : L
   pub lr : length rec ≡ 128
 
 -- the marks after the kind 3 pilots: all are there where no pilot clashes
-abbrev pub AfterPilots : Found → Device → Plan → List ℕ → Type 0
-AfterPilots (At k) d p m = length m ≡ capacity
-AfterPilots Nothing d p m = Marked d p m
+abbrev pub AfterPilots : Option ℕ → Device → Plan → List ℕ → Type 0
+AfterPilots (Some k) d p m = length m ≡ capacity
+AfterPilots None d p m = Marked d p m

@@ -28,11 +28,7 @@ fn spread(m: &mut [u16; 4096], a: usize, b: usize, v: u16)
     requires { (length m.old ≡ capacity) × (a ≤ b) × (b ≤ capacity) }
     ensures { Stamped v (between a b) m.old m.new }
 {
-    let mut k = a;
-    while k < b {
-        m[k] = v;
-        k += 1;
-    }
+    m[a..b].fill(v);
 }
 
 // The marks cleared, and the excluded subcarriers painted.
@@ -41,12 +37,8 @@ pub fn paint(plan: &[u8], size: usize, lo: &[u16], hi: &[u16], n: usize, m: &mut
     ensures { Cells size (painted (excluded (plan_of plan.now))) m.new }
 {
     spread(m, 0, size, 0);
-    let mut i: usize = 0;
-    while i < n {
-        let e = wide(lo[i]);
-        let u = wide(hi[i]);
-        spread(m, e, u, EXCLUDED);
-        i += 1;
+    for i in 0..n {
+        spread(m, wide(lo[i]), wide(hi[i]), EXCLUDED);
     }
 }
 
@@ -55,10 +47,8 @@ fn mark_pilots(m: &mut [u16; 4096], pilots: [u16; 8])
     requires { (length m.old ≡ capacity) × AllBelow capacity pilots }
     ensures { Stamped continuous_mark (λ k. one_of k pilots) m.old m.new }
 {
-    let mut i: usize = 0;
-    while i < 8 {
-        m[wide(pilots[i])] = CONTINUOUS;
-        i += 1;
+    for x in pilots.iter() {
+        m[wide(*x)] = CONTINUOUS;
     }
 }
 

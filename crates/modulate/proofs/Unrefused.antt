@@ -10,7 +10,7 @@ use Rattle.points.specs.Points.{point_of, load_listed}
 use Rattle.scaling.specs.Scale.{scaled_point}
 use Rattle.scaling.proofs.NearLaws.{scaled_23, scaled_at}
 use Rattle.modulator.specs.declared.OnLine.TheVariants.{Point}
-use Rattle.modulator.specs.declared.LineAnswer.TheVariants as a-line
+use Rattle.std.specs.Prelude.{Ok}
 use Rattle.modulator.specs.Lines.{line_from, unmarked, marked, mark_line, line_of, line_answer}
 use Rattle.modulator.specs.Symbols.{refused}
 use Rattle.modulator.proofs.LineLaws.{below_marks, above_marks, at_marks, too_high}
@@ -36,10 +36,10 @@ module _ (cell m : ℕ) (minus : Bool) (e : refused (line_answer cell m minus) �
       by_test (ltb cell 0x8005) (λ t. ltb-true cell 0x8005 t)
       (λ t. absurd (omega (arith, not_high (above_marks cell (ltb-false cell 0x8005 t)), too_high cell m listed h)))
 
-  pub line_value : cell < 0x8000 → a-line.Is (Point (scaled_point m (point_of m cell))) ≡ line_answer cell m minus
+  pub line_value : cell < 0x8000 → Ok (Point (scaled_point m (point_of m cell))) ≡ line_answer cell m minus
   unfolding line_answer line_of unmarked
   line_value h = rw (listed, below_marks cell h) (ap line_from (sym (scaled_at m cell listed (value_in h))))
 
-  pub line_mark : 0x8000 ≤ cell → a-line.Is (mark_line cell minus) ≡ line_answer cell m minus
+  pub line_mark : 0x8000 ≤ cell → Ok (mark_line cell minus) ≡ line_answer cell m minus
   unfolding line_answer line_of
   line_mark h = rw (listed, at_marks cell h (mark_in h)) refl

@@ -9,7 +9,7 @@
 ghost use Rattle.std.specs.Prelude.{◌≤◌};
 
 use console::Standard;
-use modulator::ModulateAnswer;
+use modulator::RefusedPoint;
 
 // The cells of the room for a symbol, as many as of the loads and of the sign bytes; and the numbers of the room for a modulator symbol.
 const ROOM: usize = 4097;
@@ -92,7 +92,7 @@ fn modulated(
     loads: &[u8],
     minus: &[u8],
     out: &mut [f32],
-) -> ModulateAnswer {
+) -> Result<(), RefusedPoint> {
     let a = at_most(console::number_at(head, 1), symbol.len());
     let b = at_most(console::number_at(head, 2), loads.len());
     let c = at_most(console::number_at(head, 3), minus.len());
@@ -107,12 +107,12 @@ fn lent(
     loads: &[u8; ROOM],
     minus: &[u8; ROOM],
     out: &mut [f32],
-) -> ModulateAnswer {
+) -> Result<(), RefusedPoint> {
     modulated(head, symbol, loads, minus, out)
 }
 
 // The answer of a case.
-fn answer_of(head: &[u8; 44], out: &mut [f32]) -> ModulateAnswer {
+fn answer_of(head: &[u8; 44], out: &mut [f32]) -> Result<(), RefusedPoint> {
     let mut symbol = [0u16; ROOM];
     let mut loads = [0u8; ROOM];
     let mut minus = [0u8; ROOM];
@@ -128,19 +128,27 @@ fn answer_of(head: &[u8; 44], out: &mut [f32]) -> ModulateAnswer {
 }
 
 // The line of a case; false where it was not written.
-fn print_answer(streams: &mut Standard, answer: ModulateAnswer, sum: u32) -> bool {
+fn print_answer(streams: &mut Standard, answer: Result<(), RefusedPoint>, sum: u32) -> bool {
     match answer {
-        ModulateAnswer::Modulated => console::print_line(
+        Ok(()) => console::print_line(
             streams,
             b"modulatecases",
             b"0 0 0 #\n",
             [sum, 0, 0, 0, 0, 0, 0],
         ),
-        ModulateAnswer::Refused(number, place, subcarrier) => console::print_line(
+        Err(point) => console::print_line(
             streams,
             b"modulatecases",
             b"# # # #\n",
-            [number, place, subcarrier, sum, 0, 0, 0],
+            [
+                point.refusal.number,
+                point.refusal.place,
+                point.subcarrier,
+                sum,
+                0,
+                0,
+                0,
+            ],
         ),
     }
 }

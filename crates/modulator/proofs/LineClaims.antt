@@ -6,7 +6,7 @@ use native.Mathlib.Omega.{arith}
 use lib.Ieee.{of_bits}
 use Rattle.points.specs.Points.{load_listed}
 use Rattle.scaling.proofs.NearLaws.{scaled_23}
-use Rattle.modulator.specs.declared.LineAnswer.TheVariants.{Refused}
+use Rattle.rules.specs.Refusals.{refused_by}
 use Rattle.modulator.specs.Lines.{line_from, unmarked, marked, mark_line, line_of, line_answer}
 use Rattle.modulator.specs.Claims.{LineClaims}
 use Rattle.modulator.proofs.LineLaws.{too_high}
@@ -16,7 +16,7 @@ listed : (cell m : ℕ) (minus : Bool) → load_listed m ≡ true → line_answe
 unfolding line_answer
 listed cell m minus t = rw t refl
 
-past : (m : ℕ) (minus : Bool) → load_listed m ≡ true → line_of 0x8005 m minus ≡ Refused 23 0x8005
+past : (m : ℕ) (minus : Bool) → load_listed m ≡ true → line_of 0x8005 m minus ≡ refused_by 23 0x8005
 unfolding line_of marked unmarked
 past m minus t = ap line_from (scaled_23 m 0x8005 t (too_high 0x8005 m t (omega arith)))
 

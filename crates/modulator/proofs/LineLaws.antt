@@ -12,16 +12,15 @@ use Rattle.rules.specs.Roles.{excluded_mark, continuous_mark, plc_mark}
 use Rattle.rules.specs.Frame.{placeholder, filler}
 use Rattle.points.specs.Points.{load_listed}
 use Rattle.points.proofs.BackLaws.{at_most}
-use Rattle.scaling.specs.declared.ScaledAnswer.{ScaledAnswer}
-use Rattle.scaling.specs.declared.ScaledAnswer.TheVariants as a-scaled
-use Rattle.scaling.specs.Scale.{scaled_answer, near_answer}
+use Rattle.std.specs.Prelude.{Ok, Err}
+use Rattle.scaling.specs.Scale.{ScaledAnswer, scaled_answer, near_answer}
 use Rattle.scaling.proofs.Sweep.{holds}
 use Rattle.scaling.proofs.NearLaws.{near_scaled}
 use Rattle.modulator.specs.Lines.{line_from, unmarked, marked, mark_line, line_of, line_answer, near_line, near_line_answer}
 
 near_on : (cell m : ℕ) (a : ScaledAnswer) → near_line_answer cell m (line_from a) ≡ near_answer m cell a
-near_on cell m (a-scaled.At s) = refl
-near_on cell m (a-scaled.Refused n place) = refl
+near_on cell m (Ok s) = refl
+near_on cell m (Err r) = refl
 
 pub near_unmarked : (cell m : ℕ) → near_line_answer cell m (unmarked cell m) ≡ true
 unfolding unmarked

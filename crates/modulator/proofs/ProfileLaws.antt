@@ -3,7 +3,6 @@ use Prim.Native.Nat.{ℕ, zero, suc, ◌≤◌, ◌<◌}
 use mathlib.Core.Path.{◌≡◌, refl, ap, ◌∙◌}
 use mathlib.Core.Bool.{Bool, true, false, not, ◌||◌}
 use mathlib.Core.List.{List, map}
-use mathlib.Core.Option.{none}
 use native.Mathlib.Omega.{arith}
 use lib.Dec.{leb}
 use lib.ListN.{get_or}
@@ -12,7 +11,7 @@ use Rattle.counting.proofs.Bools.{by_test}
 use Rattle.counting.proofs.Lists.{get_or-map_in}
 use Rattle.counting.proofs.Laws.{none_lowest}
 use Rattle.gray.proofs.Computed.{below}
-use Rattle.rules.specs.declared.Finding.TheVariants.{Fine}
+use Rattle.std.specs.Prelude.{Ok, None}
 use Rattle.rules.specs.declared.Role.{Role}
 use Rattle.rules.specs.declared.Role.TheVariants.{Excluded, Plc, Continuous, Scattered, Data}
 use Rattle.rules.specs.Frame.{fits_role, filler}
@@ -23,7 +22,6 @@ use Rattle.scaling.specs.Scale.{scaled_point}
 use Rattle.scaling.proofs.Sweep.{holds}
 use Rattle.scaling.proofs.NearLaws.{scaled_at}
 use Rattle.modulator.specs.declared.OnLine.TheVariants.{Point}
-use Rattle.modulator.specs.declared.LineAnswer.TheVariants.{Is}
 use Rattle.modulator.specs.Lines.{line_from, unmarked, marked, mark_line, line_of, line_answer}
 use Rattle.modulator.specs.Symbols.{refused, line_at, is_minus, line_refusal}
 use Rattle.modulator.specs.Claims.{ProfileClaims}
@@ -37,12 +35,12 @@ unfolding fits profile_load point_load load_listed
 listed l e = let t : fits l ≡ true = holds (fits l) (below fits 15 tt l (omega (arith, load_small l e))) in rw e at t
 
 cell : (l x : ℕ) (minus : Bool) → profile_load l ≡ true → x ≤ load_limit l
-    → line_answer x (point_load l) minus ≡ Is (Point (scaled_point (point_load l) (point_of (point_load l) x)))
+    → line_answer x (point_load l) minus ≡ Ok (Point (scaled_point (point_load l) (point_of (point_load l) x)))
 unfolding line_answer line_of unmarked
 cell l x minus e h =
     rw (listed l e, below_marks x (omega (arith, h, limit_top l (load_small l e)))) (ap line_from (scaled_at (point_load l) x (listed l e) (within_point l x h)))
 
-mark : (l x : ℕ) (minus : Bool) → profile_load l ≡ true → marked x ≡ true → line_answer x (point_load l) minus ≡ Is (mark_line x minus)
+mark : (l x : ℕ) (minus : Bool) → profile_load l ≡ true → marked x ≡ true → line_answer x (point_load l) minus ≡ Ok (mark_line x minus)
 unfolding line_answer line_of
 mark l x minus e m = rw (listed l e, m) refl
 
@@ -74,8 +72,8 @@ stands l x minus e Data f =
     by_test (leb x (load_limit l)) (λ t. cell_stands l x minus e (leb-true x (load_limit l) t))
     (λ t. let q : x ≡ filler = eqb-true x filler (rw t at f) in mark_stands l x minus e (omega arith) (omega arith))
 
-symbol : (n : ℕ) (w y minus : List ℕ) → ground25 n w ≡ Fine → ((k : ℕ) → k < n → (r : Role) × (fits_role (limit_at w k) r (get_or y k 0) ≡ true))
-    → line_refusal y (map point_load w) minus n ≡ none
+symbol : (n : ℕ) (w y minus : List ℕ) → ground25 n w ≡ Ok tt → ((k : ℕ) → k < n → (r : Role) × (fits_role (limit_at w k) r (get_or y k 0) ≡ true))
+    → line_refusal y (map point_load w) minus n ≡ None
 unfolding line_at Stands
 symbol n w y minus fine fit =
     let all = loaded n w fine in

@@ -1,17 +1,15 @@
 -- A modulator symbol (request 04; no paper fixes its layout, docs/MODULATOR.md does): two numbers for each subcarrier, first coordinate
 -- first. What filling one answers and leaves. Assumes nothing.
-use Rattle.std.specs.Prelude.{ℕ, zero, suc, ◌+◌, ◌*◌, Bool, true, false, not, ◌&&◌, List, eqb, pos, length, get_or, set, Float}
-use Rattle.std.proofs.Math.Option.{Option, none, some}
+use Rattle.std.specs.Prelude.{ℕ, zero, suc, ◌+◌, ◌*◌, Bool, true, false, not, ◌&&◌, List, eqb, pos, length, get_or, set, Float, Option, Some, None, Result, Ok, Err}
 use Rattle.std.specs.Float.{fin}
 use Rattle.counting.specs.Search.{pick, lowest}
 use Rattle.rules.specs.declared.Device.{Device}
+use Rattle.rules.specs.declared.Refusal.{Refusal}
+use Rattle.rules.specs.Refusals.{refusal}
 use Rattle.modulator.specs.declared.OnLine.{OnLine}
 use Rattle.modulator.specs.declared.OnLine.TheVariants.{Silent, Open, Point, Pilot}
-use Rattle.modulator.specs.declared.LineAnswer.{LineAnswer}
-use Rattle.modulator.specs.declared.LineAnswer.TheVariants as a-line
-use Rattle.modulator.specs.declared.ModulateAnswer.{ModulateAnswer}
-use Rattle.modulator.specs.declared.ModulateAnswer.TheVariants.{Modulated, Refused}
-use Rattle.modulator.specs.Lines.{line_answer}
+use Rattle.modulator.specs.declared.RefusedPoint.{RefusedPoint}
+use Rattle.modulator.specs.Lines.{LineAnswer, line_answer}
 
 -- the number 0
 abbrev pub nought : Float
@@ -28,6 +26,13 @@ put l k Open = l
 put l k (Point s) = pair l k s.x s.y
 put l k (Pilot a) = pair l k a nought
 
+-- what filling answers: done, or a refusal and the subcarrier
+abbrev pub ModulateAnswer : Type 0
+ModulateAnswer = Result Unit RefusedPoint
+
+abbrev pub refused_point : Refusal → ℕ → ModulateAnswer
+refused_point r k = Err (record { refusal = r; subcarrier = k })
+
 -- what filling answers, and the modulator symbol as it leaves it
 pub record Modulating : Type 0 where
   pub answer : ModulateAnswer
@@ -42,18 +47,18 @@ is_minus b = not (eqb b 0)
 
 -- the subcarrier is refused
 abbrev pub refused : LineAnswer → Bool
-refused (a-line.Is l) = false
-refused (a-line.Refused n place) = true
+refused (Ok l) = false
+refused (Err r) = true
 
--- number and place of a refusal at subcarrier k
+-- a refusal at subcarrier k
 abbrev pub refused_at : ℕ → LineAnswer → ModulateAnswer
-refused_at k (a-line.Is l) = Modulated
-refused_at k (a-line.Refused n place) = Refused n place k
+refused_at k (Ok l) = Ok tt
+refused_at k (Err r) = refused_point r k
 
 -- what stands on the line at subcarrier k, written
 abbrev pub put_answer : List Float → ℕ → LineAnswer → List Float
-put_answer l k (a-line.Is line) = put l k line
-put_answer l k (a-line.Refused n place) = l
+put_answer l k (Ok line) = put l k line
+put_answer l k (Err r) = l
 
 -- of a symbol on the line, the load of each subcarrier and the sign of each subcarrier's pilot
 module _ (symbol loads minus : List ℕ) where
@@ -72,8 +77,8 @@ module _ (symbol loads minus : List ℕ) where
 
   -- refused at the lowest such subcarrier, or filled
   abbrev pub answered : ℕ → Option ℕ → List Float → Modulating
-  answered n (some k) l = modulates (refused_at k (line_at k)) l
-  answered n none l = modulates Modulated (filled_to n l)
+  answered n (Some k) l = modulates (refused_at k (line_at k)) l
+  answered n None l = modulates (Ok tt) (filled_to n l)
 
   -- a cell, a load, a sign and two numbers for each of the device's subcarriers, and no more
   unfoldable pub fitting : Device → List Float → Bool
@@ -81,4 +86,4 @@ module _ (symbol loads minus : List ℕ) where
 
   -- 17: lengths that do not fit, place 0; then 22 and 23, place as on the line; a refusal changes nothing
   unfoldable pub modulate_step : Device → List Float → Modulating
-  modulate_step d l = pick (fitting d l) (answered d.subcarriers (line_refusal d.subcarriers) l) (modulates (Refused 17 0 0) l)
+  modulate_step d l = pick (fitting d l) (answered d.subcarriers (line_refusal d.subcarriers) l) (modulates (refused_point (refusal 17 0) 0) l)

@@ -11,6 +11,7 @@ ghost use Rattle.modulator.specs.Claims.{LineClaims, ProfileClaims};
 
 use gray::power;
 use points::load_listed;
+use rules::Refusal;
 use scaling::{ScaledPoint, scaled_at};
 
 // What stands on the line at a subcarrier.
@@ -24,18 +25,11 @@ pub enum OnLine {
     Pilot(f32),
 }
 
-// The answer to what stands on the line, or refused with number and place.
+// A refused modulator symbol: the refusal, and the subcarrier.
 #[derive(Clone, Copy)]
-pub enum LineAnswer {
-    Is(OnLine),
-    Refused(u32, u32),
-}
-
-// The answer of filling a modulator symbol: done, or refused with number and place, and the subcarrier.
-#[derive(Clone, Copy)]
-pub enum ModulateAnswer {
-    Modulated,
-    Refused(u32, u32, u32),
+pub struct RefusedPoint {
+    pub refusal: Refusal,
+    pub subcarrier: u32,
 }
 
 // A pilot of amplitude 2, with the minus sign where its sign bit is 1.
@@ -67,24 +61,33 @@ pub fn mark_line(mark: u16, minus: bool) -> OnLine
 }
 
 // What stands on the line for a cell, its load and the pilot's sign bit, true for 1: refused by 22, then 23.
-pub fn on_line(cell: u16, load: u32, minus: bool) -> LineAnswer
+pub fn on_line(cell: u16, load: u32, minus: bool) -> Result<OnLine, Refusal>
     ensures answer { result ≡ line_answer cell load minus }
     ensures near { near_line_answer cell load result ≡ true }
 {
     if !load_listed(load) {
-        return LineAnswer::Refused(22, load);
+        return Err(Refusal {
+            number: 22,
+            place: load,
+        });
     }
     if 0x8000 <= cell {
         if cell < 0x8005 {
-            return LineAnswer::Is(mark_line(cell, minus));
+            return Ok(mark_line(cell, minus));
         }
-        return LineAnswer::Refused(23, cell as u32);
+        return Err(Refusal {
+            number: 23,
+            place: cell as u32,
+        });
     }
     let value = cell as u32;
     if power(load) <= value {
-        return LineAnswer::Refused(23, value);
+        return Err(Refusal {
+            number: 23,
+            place: value,
+        });
     }
-    LineAnswer::Is(OnLine::Point(scaled_at(load, value)))
+    Ok(OnLine::Point(scaled_at(load, value)))
 }
 
 // The two numbers of a subcarrier.

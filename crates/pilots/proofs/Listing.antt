@@ -18,7 +18,8 @@ use Rattle.counting.proofs.Searches.{count_up}
 use Rattle.counting.proofs.Sums.{sum_none→}
 use Rattle.counting.proofs.Lists.{zeros, length_tabulate, get_d_tabulate, is_tabulate}
 use Rattle.rules.specs.declared.Device.{Device}
-use Rattle.rules.specs.declared.Finding.TheVariants.{Fine, Ground}
+use Rattle.rules.specs.declared.Refusal.{Refusal}
+use Rattle.std.specs.Prelude.{Ok, Err}
 use Rattle.rules.specs.Plan.{Plan, plan_of}
 use Rattle.rules.specs.Roles.{continuous_mark, mark}
 use Rattle.rules.specs.Grounds.{grounds1to15}
@@ -135,10 +136,10 @@ marked_pilots d p marks m =
     those_ext (is_marked marks) (λ k. eqb (mark d p k) continuous_mark) d.subcarriers (λ k h. ap (λ (x : ℕ). eqb x continuous_mark) (m.cell k h))
 
 module _ (d : Device) (s : List ℕ) where
-  pub answer_fine : grounds1to15 d s ≡ Fine → listing (continuous_pilots d (plan_of s)) ≡ pilots_answer d s
+  pub answer_fine : grounds1to15 d s ≡ Ok tt → listing (continuous_pilots d (plan_of s)) ≡ pilots_answer d s
   unfolding pilots_answer
   answer_fine e = rw (e, pilots_answer) refl
 
-  pub answer_ground : (n place : ℕ) → grounds1to15 d s ≡ Ground n place → no_listing n place ≡ pilots_answer d s
+  pub answer_ground : (r : Refusal) → grounds1to15 d s ≡ Err r → no_listing r ≡ pilots_answer d s
   unfolding pilots_answer
-  answer_ground n place e = rw (e, pilots_answer) refl
+  answer_ground r e = rw (e, pilots_answer) refl

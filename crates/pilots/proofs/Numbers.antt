@@ -2,7 +2,6 @@
 use Prim.Native.Nat.{ℕ, ◌+◌, ◌≤◌, ◌<◌}
 use mathlib.Core.Path.{◌≡◌, refl, sym, ap, ◌∙◌, subst}
 use mathlib.Core.Bool.{Bool, true, false, ◌&&◌, ◌||◌}
-use mathlib.Core.Option.{Option, none, some}
 use mathlib.Core.List.{List, [], ◌∷◌}
 use native.Mathlib.Nat.{zero-add, le_refl}
 use native.Mathlib.Omega.{arith}
@@ -14,8 +13,8 @@ use Rattle.counting.proofs.Bools.{by_test, conflict, neither, or_true}
 use Rattle.counting.proofs.Laws.{count_false, count_ext, lowest_none, length_those}
 use Rattle.counting.proofs.Sums.{sum_cong, sum_add, count_eq}
 use Rattle.rules.specs.declared.Device.{Device}
-use Rattle.rules.specs.declared.Finding.{Finding}
-use Rattle.rules.specs.declared.Finding.TheVariants.{Fine}
+use Rattle.rules.specs.Refusals.{Finding}
+use Rattle.std.specs.Prelude.{Ok, Option, Some, None}
 use Rattle.rules.specs.Fits.{Fits}
 use Rattle.rules.specs.Plan.{Entry, Plan, plan_of}
 use Rattle.rules.specs.Bands.{any, excluded}
@@ -73,16 +72,16 @@ above_distinct a (x ∷ xs) r = (not_above a a (x ∷ xs) (le_refl a) r, above_d
 -- ---- the tests of an accepted plan
 
 -- grounds 7 and 8 of 6 to 15
-seven_eight : (six seven eight later : Finding) → (six else seven else eight else later) ≡ Fine → (seven ≡ Fine) × (eight ≡ Fine)
+seven_eight : (six seven eight later : Finding) → (six else seven else eight else later) ≡ Ok tt → (seven ≡ Ok tt) × (eight ≡ Ok tt)
 seven_eight six seven eight later e =
     let from-seven = both_fine seven _ (both_fine six _ e).1 in
     (from-seven.0, (both_fine eight later from-seven.1).0)
 
-no_clash : (b : Bool) (i : ℕ) (o : Option ℕ) → or_else (when b i) o ≡ none → (b ≡ false) × (o ≡ none)
+no_clash : (b : Bool) (i : ℕ) (o : Option ℕ) → or_else (when b i) o ≡ None → (b ≡ false) × (o ≡ None)
 no_clash true i o e = absurd (some_is_none e)
   where
-    some_is_none : some i ≡ none → ⊥
-    some_is_none z = let y : ◌≡◌ {A = ℕ} 0 1 = ap (λ (q : Option ℕ). elim q [ none ↦ 1 | some k ↦ 0 ]) z in omega arith
+    some_is_none : Some i ≡ None → ⊥
+    some_is_none z = let y : ◌≡◌ {A = ℕ} 0 1 = ap (λ (q : Option ℕ). elim q [ None ↦ 1 | Some k ↦ 0 ]) z in omega arith
 no_clash false i o e = (refl, e)
 
 earlier_none : (k : ℕ) (e : Entry) (es : List Entry) → any (names k) (e ∷ es) ≡ false → (eqb e.low k ≡ false) × (any (names k) es ≡ false)
@@ -98,7 +97,7 @@ module _ (d : Device) (p : Plan) where
     new : (k : ℕ) → one_of k (lows es) ≡ true → any (names k) earlier ≡ false
     once : Distinct (lows es)
 
-  clear : (earlier es : List Entry) → pilot_clash d p earlier es ≡ none → Clear earlier es
+  clear : (earlier es : List Entry) → pilot_clash d p earlier es ≡ None → Clear earlier es
   unfolding pilot_clash one_of Distinct
   clear earlier [] e = record {
     active = λ k h. absurd (conflict false h refl);
@@ -129,7 +128,7 @@ module _ (d : Device) (p : Plan) where
           (λ g. ap t (eqb-true k e.low g) ∙ a)
           (λ g. rest k (sym (ap (λ (b : Bool). b || one_of k (lows es)) g) ∙ h))
 
-module _ (d : Device) (fits : Fits d) (s : List ℕ) (fine : grounds1to15 d s ≡ Fine) where
+module _ (d : Device) (fits : Fits d) (s : List ℕ) (fine : grounds1to15 d s ≡ Ok tt) where
   abbrev p : Plan
   p = plan_of s
 
@@ -139,7 +138,7 @@ module _ (d : Device) (fits : Fits d) (s : List ℕ) (fine : grounds1to15 d s �
   abbrev further : List ℕ
   further = lows p.pilots
 
-  stages : (ground? 7 (around_plc d p) ≡ Fine) × (ground? 8 (pilot_clash d p [] p.pilots) ≡ Fine)
+  stages : (ground? 7 (around_plc d p) ≡ Ok tt) × (ground? 8 (pilot_clash d p [] p.pilots) ≡ Ok tt)
   unfolding grounds6to15
   stages = seven_eight (ground? 6 (outside d p)) (ground? 7 (around_plc d p)) (ground? 8 (pilot_clash d p [] p.pilots)) _ (later_fine d s fine)
 
@@ -221,7 +220,7 @@ module _ (d : Device) (fits : Fits d) (s : List ℕ) (fine : grounds1to15 d s �
       let l : ℕ = p.plc in
       let low = (plc_in d s fine).0 in
       let margin = fits.plc_low in
-      let some = fits.plc_some in
+      let Some = fits.plc_some in
       let a = rise 0 (omega (arith, fits.four)) in
       let b = rise 1 (omega (arith, fits.four)) in
       let c = rise 2 (omega (arith, fits.four)) in

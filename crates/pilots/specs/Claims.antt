@@ -1,8 +1,7 @@
 -- What is claimed of the continuous pilots of a plan. Statements only. Assumes nothing.
-use Rattle.std.specs.Prelude.{ℕ, suc, ◌+◌, ◌≤◌, ◌<◌, ◌≡◌, true, List, length, get_or}
+use Rattle.std.specs.Prelude.{ℕ, suc, ◌+◌, ◌≤◌, ◌<◌, ◌≡◌, true, List, length, get_or, Ok}
 use Rattle.rules.specs.declared.Device.{Device}
 use Rattle.rules.specs.declared.Role.TheVariants.{Continuous}
-use Rattle.rules.specs.declared.Verdict.TheVariants.{Accepted}
 use Rattle.rules.specs.Plan.{plan_of}
 use Rattle.rules.specs.Roles.{role, one_of}
 use Rattle.rules.specs.Grounds.{verdict}
@@ -20,6 +19,6 @@ module _ (d : Device) (s : List ℕ) where
     -- each once, in rising order
     pub rising : Rising (continuous_pilots d (plan_of s))
     -- an accepted plan has eight, two for each distance, and one for each kind 3 record on the chain
-    pub number : (n : ℕ) → verdict d s ≡ Accepted n → length (continuous_pilots d (plan_of s)) ≡ length d.distances + length d.distances + length (plan_of s).pilots
+    pub number : (n : ℕ) → verdict d s ≡ Ok n → length (continuous_pilots d (plan_of s)) ≡ length d.distances + length d.distances + length (plan_of s).pilots
     -- so they all have a place in the list of the answer
-    pub enough : (n : ℕ) → verdict d s ≡ Accepted n → length (continuous_pilots d (plan_of s)) ≤ pilots_most
+    pub enough : (n : ℕ) → verdict d s ≡ Ok n → length (continuous_pilots d (plan_of s)) ≤ pilots_most

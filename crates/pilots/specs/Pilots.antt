@@ -1,10 +1,9 @@
 -- The continuous pilots of a plan, predefined and kind 3 alike, in rising order (document 01, "Roles of a subcarrier"; 02, Req 10), and what the
 -- entry `pilots` answers. Assumes nothing.
-use Rattle.std.specs.Prelude.{ℕ, Bool, List, eqb, length, get_or, replicate}
+use Rattle.std.specs.Prelude.{ℕ, Bool, List, eqb, length, get_or, replicate, Ok, Err}
 use Rattle.counting.specs.Search.{those, tabulate}
 use Rattle.rules.specs.declared.Device.{Device}
-use Rattle.rules.specs.declared.Finding.TheVariants.{Fine, Ground}
-use Rattle.rules.specs.declared.CountAnswer.TheVariants.{Count, Refused}
+use Rattle.rules.specs.declared.Refusal.{Refusal}
 use Rattle.rules.specs.Plan.{Plan, plan_of}
 use Rattle.rules.specs.Roles.{continuous_mark, mark}
 use Rattle.rules.specs.Grounds.{grounds1to15}
@@ -29,11 +28,11 @@ padded n l = tabulate (λ i. get_or l i 0) n
 
 -- a list of pilots with its length, and a refusal with no pilots
 abbrev pub listing : List ℕ → PilotAnswer
-listing ks = record { answer = Count (length ks); list = padded pilots_most ks }
+listing ks = record { answer = Ok (length ks); list = padded pilots_most ks }
 
-abbrev pub no_listing : ℕ → ℕ → PilotAnswer
-no_listing n place = record { answer = Refused n place; list = replicate pilots_most 0 }
+abbrev pub no_listing : Refusal → PilotAnswer
+no_listing r = record { answer = Err r; list = replicate pilots_most 0 }
 
 -- the continuous pilots of any bytes as a plan: grounds 1 to 15
 unfoldable pub pilots_answer : Device → List ℕ → PilotAnswer
-pilots_answer d s = elim (grounds1to15 d s) [ Fine ↦ listing (continuous_pilots d (plan_of s)) | Ground n place ↦ no_listing n place ]
+pilots_answer d s = elim (grounds1to15 d s) [ Ok _ ↦ listing (continuous_pilots d (plan_of s)) | Err r ↦ no_listing r ]

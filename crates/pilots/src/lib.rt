@@ -3,9 +3,8 @@
 // without a pilot is passed over.
 #![tactic(auto)]
 
-ghost use Rattle.std.specs.Prelude.{ℕ, ◌+◌, ◌%◌, ◌≤◌, ◌≡◌, false, List, eqb, length};
+ghost use Rattle.std.specs.Prelude.{ℕ, ◌+◌, ◌%◌, ◌≤◌, ◌≡◌, false, List, eqb, length, Ok, Err};
 ghost use Rattle.counting.specs.Search.{count};
-ghost use Rattle.rules.specs.declared.Finding.TheVariants.{Fine};
 ghost use Rattle.rules.specs.Device.{khz50};
 ghost use Rattle.rules.specs.Fits.{Fits, capacity};
 ghost use Rattle.rules.specs.Plan.{plan_of};
@@ -16,7 +15,7 @@ ghost use Rattle.pilots.specs.Pilots.{pilots_most, continuous_pilots, listing, p
 ghost use Rattle.pilots.specs.Marked.{is_marked, marked_below, Listed};
 ghost use Rattle.pilots.specs.Claims.{PilotClaims};
 
-use rules::{CountAnswer, Device, Verdict};
+use rules::{Device, Refusal};
 
 // The most continuous pilots that an accepted plan has: 8 predefined ones and 120 of kind 3.
 pub const PILOTS: usize = 128;
@@ -30,7 +29,7 @@ const BLOCK: usize = 16;
 // The answer of `pilots`: their number and the pilots in rising order, 0 past the last; or refused, and zeros.
 #[derive(Clone, Copy)]
 pub struct PilotAnswer {
-    pub answer: CountAnswer,
+    pub answer: Result<u32, Refusal>,
     pub list: [u16; PILOTS],
 }
 
@@ -50,11 +49,8 @@ fn has_pilot(marks: &[u16], k: usize) -> bool
     ensures { result ≡ false → count (λ i. is_marked marks.now (k + i)) 16 ≡ 0 }
 {
     let mut h: u16 = 0;
-    let mut i: usize = 0;
-    while i < BLOCK {
-        let next = met(h, marks[k + i]);
-        h = next;
-        i = i + 1;
+    for x in &marks[k..k + BLOCK] {
+        h = met(h, *x);
     }
     h != 0
 }
@@ -80,11 +76,8 @@ fn list_block(marks: &[u16], k: usize, n: usize, list: &mut [u16; PILOTS]) -> us
         return n;
     }
     let mut m = n;
-    let mut i: usize = 0;
-    while i < BLOCK {
-        let next = list_one(marks, k + i, m, list);
-        m = next;
-        i = i + 1;
+    for i in k..k + BLOCK {
+        m = list_one(marks, i, m, list);
     }
     m
 }
@@ -96,21 +89,18 @@ fn list_marked(marks: &[u16], width: usize) -> PilotAnswer
 {
     let mut list = [0u16; PILOTS];
     let mut n: usize = 0;
-    let mut k: usize = 0;
-    while k < width {
-        let next = list_block(marks, k, n, &mut list);
-        n = next;
-        k = k + BLOCK;
+    for b in 0..width / BLOCK {
+        n = list_block(marks, BLOCK * b, n, &mut list);
     }
     PilotAnswer {
-        answer: CountAnswer::Count(n as u32),
+        answer: Ok(n as u32),
         list,
     }
 }
 
 // The continuous pilots of an accepted plan, from its marks.
 fn list_accepted(d: Device, plan: &[u8], marks: &[u16]) -> PilotAnswer
-    requires { Fits d × Studied d plan.now marks.now × (grounds1to15 d plan.now ≡ Fine) }
+    requires { Fits d × Studied d plan.now marks.now × (grounds1to15 d plan.now ≡ Ok tt) }
     ensures { result ≡ listing (continuous_pilots d (plan_of plan.now)) }
 {
     list_marked(marks, d.subcarriers)
@@ -123,11 +113,11 @@ pub fn pilots_on(d: Device, plan: &[u8]) -> PilotAnswer
 {
     let mut marks = [0u16; 4096];
     match verdicts::study(d, plan, &mut marks) {
-        Verdict::Refused(g, place) => PilotAnswer {
-            answer: CountAnswer::Refused(g, place),
+        Err(refusal) => PilotAnswer {
+            answer: Err(refusal),
             list: [0u16; PILOTS],
         },
-        Verdict::Accepted(_) => list_accepted(d, plan, &marks),
+        Ok(_) => list_accepted(d, plan, &marks),
     }
 }
 

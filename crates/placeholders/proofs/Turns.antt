@@ -1,5 +1,5 @@
 -- Turns of m cells: what the cells of a block want, and cells compared with it block after block. Assumes nothing.
-use Prim.Native.Nat.{ℕ, ◌+◌, ◌-◌, ◌%◌, ◌≤◌, ◌<◌}
+use Prim.Native.Nat.{ℕ, ◌+◌, ◌-◌, ◌*◌, ◌%◌, ◌≤◌, ◌<◌}
 use mathlib.Core.Path.{◌≡◌, refl, sym, ap, ◌∙◌}
 use mathlib.Core.Logic.{by_cases}
 use mathlib.Core.List.{List}
@@ -8,7 +8,8 @@ use native.Mathlib.Decide.{dec_lt}
 use native.Mathlib.Numerals.{add-one}
 use native.Mathlib.Omega.{arith}
 use lib.ListN.{length, get_or, set, take}
-use lib.Seq.{sets, length-sets, length-take-le, get_or-take, take_all}
+use lib.Seq.{sets, length-sets, take_all}
+use Rattle.std.specs.List.{CopiedTo, SameBelow}
 use Rattle.counting.specs.Search.{bit, sum, count, tabulate}
 use Rattle.counting.proofs.Laws.{count_ext, count_add}
 use Rattle.counting.proofs.Lists.{length_tabulate, get_d_tabulate, get_d_sets_before, get_or-sets_in, get_or-sets_0, sets_snoc}
@@ -55,25 +56,26 @@ wanted_first m base d s y pos few h el ey = record {
     size = length_tabulate (λ i. (base + i) % phases) m
 
 -- as many turns again
-pub wanted_twice : (m base len : ℕ) (want y : List ℕ) → len ≤ 128 → Wanted m base len want → y ≡ sets want len (take len want) → Wanted m base (len + len) y
-wanted_twice m base len want y low w ey = record {
-  long = ap length ey ∙ length-sets want len (take len want) ∙ w.long;
+pub wanted_twice : (m base len : ℕ) (want y : List ℕ) → len < 128 → Wanted m base len want → length y ≡ length want
+    → CopiedTo want y 0 len (len - 0) × SameBelow want y len → Wanted m base (len * 2) y
+wanted_twice m base len want y low w long (copied, below) = record {
+  long = long ∙ w.long;
   some = omega (arith, w.some);
   few = omega arith;
-  whole = turn_mod m len len w.whole ∙ w.whole;
+  whole = ap (λ (x : ℕ). x % m) twice ∙ turn_mod m len len w.whole ∙ w.whole;
   each = λ i h.
-      rw ey
-      (split (λ (i : ℕ). i < len + len → get_or (sets want len (take len want)) i 0 ≡ (base + i % m) % phases) len i
-      (λ c g. get_d_sets_before want len (take len want) 0 i c ∙ w.each i c)
+      split (λ (i : ℕ). i < len + len → get_or y i 0 ≡ (base + i % m) % phases) len i
+      (λ c g. below i 0 c ∙ w.each i c)
       (λ j e g.
       let jl : j < len = omega arith in
-      get_or-sets_in want len (take len want) 0 j (omega (arith, size)) (omega (arith, w.long))
-      ∙ get_or-take len want j 0 jl ∙ w.each j jl ∙ ap (λ (x : ℕ). (base + x) % phases) (sym (turn_mod m len j w.whole)))
-      h);
+      let back : 0 + (len + j - len) ≡ j = omega arith in
+      copied (len + j) 0 (omega arith) (omega arith) ∙ ap (λ (k : ℕ). get_or want k 0) back
+      ∙ w.each j jl ∙ ap (λ (x : ℕ). (base + x) % phases) (sym (turn_mod m len j w.whole)))
+      (omega arith);
 }
   where
-    size : length (take len want) ≡ len
-    size = length-take-le len want (omega (arith, w.long))
+    twice : len * 2 ≡ len + len
+    twice = omega arith
 
 -- the first b cells have their flags, and n of them are flagged; b is whole turns while cells are left
 pub record Flagged (m base : ℕ) (kc flag : List ℕ) (b n : ℕ) : Type 0 where

@@ -26,19 +26,20 @@ fn place_row(
     ensures stored { (l : List ℕ) → out.old ≡ placed_up_to bits car.now cells.now first l → out.new ≡ placed_up_to bits car.now cells.now result l }
 {
     let rows = power(bits);
-    let ni = cells.len();
+    // A row has so many cells; the shift divides by the number of rows.
+    let count = (cells.len() + rows - 1 - row) >> bits;
     let mut rank = first;
     let mut p = row;
-    while p + 3 * rows < ni {
+    for _ in 0..count / 4 {
         place_four(car, rank, cells, p, rows, out);
-        rank = rank + 4;
-        p = p + 4 * rows;
+        rank += 4;
+        p += 4 * rows;
     }
-    while p < ni {
+    for _ in 0..count % 4 {
         let k = wide(car[rank]);
         out[k] = cells[p];
-        rank = rank + 1;
-        p = p + rows;
+        rank += 1;
+        p += rows;
     }
     rank
 }
@@ -52,13 +53,8 @@ pub fn place_rows(bits: usize, car: &[u16], cells: &[u16], out: &mut [u16])
     let rows = power(bits);
     let step = power(table::BITS - bits);
     let mut rank: usize = 0;
-    let mut at: usize = 0;
-    let mut i: usize = 0;
-    while i < rows {
-        let row = table::octet(order[at]);
-        let next = place_row(bits, car, cells, i, row, rank, out);
-        rank = next;
-        at = at + step;
-        i = i + 1;
+    for i in 0..rows {
+        let row = table::octet(order[i * step]);
+        rank = place_row(bits, car, cells, i, row, rank, out);
     }
 }

@@ -9,8 +9,8 @@ use lib.Dec.{ltb, leb, leb-suc-suc}
 use lib.ListN.{length, take}
 use Rattle.counting.specs.Search.{keep, bit}
 use Rattle.rules.specs.declared.Device.{Device}
-use Rattle.rules.specs.declared.Finding.{Finding}
-use Rattle.rules.specs.declared.Finding.TheVariants.{Fine, Ground}
+use Rattle.rules.specs.Refusals.{Finding, refused_by}
+use Rattle.std.specs.Prelude.{Ok, Some}
 use Rattle.rules.specs.Plan.{Entry, entry, leads, chain, chain_from, only, is_range, is_pilot}
 use Rattle.rules.specs.Bands.{any, covers}
 use Rattle.rules.specs.Grounds.{◌else◌, bad_length, record_grounds, chain_grounds}
@@ -62,7 +62,7 @@ module _ (e : Entry) (es : List Entry) where
 
 -- an entry e, in which no ground holds, has been put into the tables
 module _ {d : Device} {s : List ℕ} {r np m : ℕ} {reach hot pil rec reach' hot' pil' rec' : List ℕ} {e : Entry}
-    (f : record_grounds d r np e ≡ Fine) (t : Taken d.subcarriers e np m reach pil rec reach' hot' pil' rec') where
+    (f : record_grounds d r np e ≡ Ok tt) (t : Taken d.subcarriers e np m reach pil rec reach' hot' pil' rec') where
   left_take : (es : List Entry) → Left d s r np reach hot pil rec (e ∷ es) → Left d s r m reach' hot' pil' rec' es
   unfolding chain_grounds
   left_take es w = record {
@@ -121,16 +121,15 @@ module _ {d : Device} {s : List ℕ} {r np m : ℕ} {reach hot pil rec reach' ho
 
 -- a record in which a ground holds
 module _ {d : Device} {s : List ℕ} {r i np g place : ℕ} {reach hot pil rec : List ℕ} {e : Entry} (eq : e ≡ entry s i) (k : Kept d s r i np reach hot pil rec) where
-  pub stopped : record_grounds d r np e ≡ Ground g place → chain_grounds d r 0 (chain s) ≡ Ground g place
+  pub stopped : record_grounds d r np e ≡ refused_by g place → chain_grounds d r 0 (chain s) ≡ refused_by g place
   unfolding chain_grounds chain_from
   stopped f = at_record k (λ n l w q.
       w.finding
       ∙ ap (λ (x : Finding). x else chain_grounds d r (np + bit (is_pilot (entry s i))) (elim (leads r i (entry s i).next) [ true ↦ chain_from s r n (entry s i).next | false ↦ [] ]))
       (sym (ap (record_grounds d r np) eq) ∙ f))
 
-pub found_some : (g : ℕ) {i place : ℕ} → i ≡ place → (g ≡ 0 → ⊥) → found_at g i ≡ Ground g place
-found_some zero eq ne = absurd (ne refl)
-found_some (suc g) eq ne = ap (Ground (suc g)) eq
+pub found_some : (g : ℕ) {i place : ℕ} → i ≡ place → found_at (Some g) i ≡ refused_by g place
+found_some g eq = ap (refused_by g) eq
 
 -- the walk begins at record 0, with empty tables
 pub kept_start : {d : Device} {s reach hot pil rec : List ℕ} → Table reach d.subcarriers → Flags reach hot → ((k : ℕ) → hit reach k ≡ false) → length pil ≡ 128 → length rec ≡ 128

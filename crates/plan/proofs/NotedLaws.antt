@@ -11,8 +11,8 @@ use Rattle.counting.specs.Search.{bit, when}
 use Rattle.counting.proofs.Bools.{or_false}
 use Rattle.counting.proofs.Lists.{append-nil}
 use Rattle.rules.specs.declared.Device.{Device}
-use Rattle.rules.specs.declared.Finding.{Finding}
-use Rattle.rules.specs.declared.Finding.TheVariants.{Fine, Ground}
+use Rattle.rules.specs.Refusals.{Finding, refused_by}
+use Rattle.std.specs.Prelude.{Ok}
 use Rattle.rules.specs.Plan.{Entry, number, entry, leads, chain, chain_from, only, is_plc, is_pilot, plan_of}
 use Rattle.rules.specs.Bands.{any, excluded}
 use Rattle.rules.specs.Grounds.{◌else◌, ground?, bad_length, pilots_max, record_grounds, chain_grounds, grounds1to5}
@@ -23,7 +23,7 @@ use Rattle.plan.specs.Noted.{Noted}
 use Rattle.plan.specs.Walk.{Left}
 
 -- ground 1, and past it
-pub bad_length_lem : (d : Device) (s : List ℕ) → bad_length s ≡ true → Ground 1 0 ≡ grounds1to5 d s
+pub bad_length_lem : (d : Device) (s : List ℕ) → bad_length s ≡ true → refused_by 1 0 ≡ grounds1to5 d s
 unfolding grounds1to5
 bad_length_lem d s e = sym (ap (λ (b : Bool). ground? 1 (when b 0) else chain_grounds d (length s / 8) 0 (chain s)) e)
 
@@ -33,26 +33,26 @@ good_length d s e h = sym (ap (λ (b : Bool). ground? 1 (when b 0) else chain_gr
 
 module _ (d : Device) where
   -- record 0 of a chain with no ground is of kind 1, and no ground holds in it
-  pub first_fine : (s : List ℕ) (r : ℕ) → 0 < r → chain_grounds d r 0 (chain_from s r r 0) ≡ Fine → (record_grounds d r 0 (entry s 0) ≡ Fine) × (is_plc (entry s 0) ≡ true)
+  pub first_fine : (s : List ℕ) (r : ℕ) → 0 < r → chain_grounds d r 0 (chain_from s r r 0) ≡ Ok tt → (record_grounds d r 0 (entry s 0) ≡ Ok tt) × (is_plc (entry s 0) ≡ true)
   unfolding chain_grounds chain_from entry
   first_fine s zero l f = absurd (omega arith)
   first_fine s (suc r) l f =
-      let g : record_grounds d (suc r) 0 (entry s 0) ≡ Fine =
+      let g : record_grounds d (suc r) 0 (entry s 0) ≡ Ok tt =
       (both_fine (record_grounds d (suc r) 0 (entry s 0)) (chain_grounds d (suc r) (0 + bit (is_pilot (entry s 0))) (elim (leads (suc r) 0 (entry s 0).next) [ true ↦ chain_from s (suc r) r (entry s 0).next | false ↦ [] ])) f).0 in
       (g, fine_first d (suc r) 0 (entry s 0) g refl)
 
   -- the PLC of a chain with no ground
-  pub plc_in : (s : List ℕ) (r : ℕ) → 0 < r → chain_grounds d r 0 (chain_from s r r 0) ≡ Fine → (d.low_plc ≤ number s 4) × (number s 4 ≤ d.high_plc)
+  pub plc_in : (s : List ℕ) (r : ℕ) → 0 < r → chain_grounds d r 0 (chain_from s r r 0) ≡ Ok tt → (d.low_plc ≤ number s 4) × (number s 4 ≤ d.high_plc)
   unfolding entry
   plc_in s r l f = let g = first_fine s r l f in fine_plc d r 0 (entry s 0) g.0 g.1
 
   -- the depth of a chain with no ground
-  pub depth_in : (s : List ℕ) (r : ℕ) → 0 < r → chain_grounds d r 0 (chain_from s r r 0) ≡ Fine → (0 < number s 6) × (number s 6 ≤ d.depth_max)
+  pub depth_in : (s : List ℕ) (r : ℕ) → 0 < r → chain_grounds d r 0 (chain_from s r r 0) ≡ Ok tt → (0 < number s 6) × (number s 6 ≤ d.depth_max)
   unfolding entry
   depth_in s r l f = let g = first_fine s r l f in fine_depth d r 0 (entry s 0) g.0 g.1
 
   -- after n pilots, a chain with no ground has no more than are allowed
-  pub pilots_few : (r n : ℕ) (es : List Entry) → chain_grounds d r n es ≡ Fine → n ≤ pilots_max → n + length (only is_pilot es) ≤ pilots_max
+  pub pilots_few : (r n : ℕ) (es : List Entry) → chain_grounds d r n es ≡ Ok tt → n ≤ pilots_max → n + length (only is_pilot es) ≤ pilots_max
   unfolding chain_grounds only
   pilots_few r n [] f l = omega arith
   pilots_few r n (e ∷ es) f l =
@@ -64,7 +64,7 @@ module _ (d : Device) where
       go false h = omega arith
 
   -- the pilots of a chain with no ground
-  pub pilots_in : (r n : ℕ) (es : List Entry) → chain_grounds d r n es ≡ Fine → (q : ℕ) → q < length (map (λ (e : Entry). e.low) (only is_pilot es)) → get_or (map (λ (e : Entry). e.low) (only is_pilot es)) q 0 < d.subcarriers
+  pub pilots_in : (r n : ℕ) (es : List Entry) → chain_grounds d r n es ≡ Ok tt → (q : ℕ) → q < length (map (λ (e : Entry). e.low) (only is_pilot es)) → get_or (map (λ (e : Entry). e.low) (only is_pilot es)) q 0 < d.subcarriers
   unfolding chain_grounds only
   pilots_in r n [] f q l = absurd (omega arith)
   pilots_in r n (e ∷ es) f q l =
@@ -74,7 +74,7 @@ module _ (d : Device) where
       lows : List Entry → List ℕ
       lows xs = map (λ (x : Entry). x.low) xs
 
-      go : (t : Bool) → is_pilot e ≡ t → record_grounds d r n e ≡ Fine → ((q : ℕ) → q < length (lows (only is_pilot es)) → get_or (lows (only is_pilot es)) q 0 < d.subcarriers)
+      go : (t : Bool) → is_pilot e ≡ t → record_grounds d r n e ≡ Ok tt → ((q : ℕ) → q < length (lows (only is_pilot es)) → get_or (lows (only is_pilot es)) q 0 < d.subcarriers)
           → (q : ℕ) → q < length (lows (elim t [ true ↦ e ∷ only is_pilot es | false ↦ only is_pilot es ])) → get_or (lows (elim t [ true ↦ e ∷ only is_pilot es | false ↦ only is_pilot es ])) q 0 < d.subcarriers
       go false k g below q l = below q l
       go true k g below zero l = fine_pilot d r n e g k
@@ -82,7 +82,7 @@ module _ (d : Device) where
 
   -- the whole chain has been walked
   module _ {s : List ℕ} {np : ℕ} {reach hot pil rec : List ℕ} (w : Left d s (length s / 8) np reach hot pil rec []) where
-    pub left_fine : chain_grounds d (length s / 8) 0 (chain s) ≡ Fine
+    pub left_fine : chain_grounds d (length s / 8) 0 (chain s) ≡ Ok tt
     unfolding chain_grounds
     left_fine = w.finding
 

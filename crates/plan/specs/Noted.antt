@@ -1,18 +1,17 @@
 -- What the walk along the chain answers, and what the tables hold after it. Assumes nothing.
-use Rattle.std.specs.Prelude.{◌≡◌, List, map, ℕ, ◌<◌, ◌≤◌, length, get_or, take}
+use Rattle.std.specs.Prelude.{◌≡◌, List, map, ℕ, ◌<◌, ◌≤◌, length, get_or, take, Result, Ok, Err}
 use Rattle.rules.specs.declared.Device.{Device}
-use Rattle.rules.specs.declared.Finding.{Finding}
-use Rattle.rules.specs.declared.Finding.TheVariants.{Fine, Ground}
+use Rattle.rules.specs.declared.Refusal.{Refusal}
+use Rattle.rules.specs.Refusals.{Finding}
 use Rattle.rules.specs.Plan.{Entry, plan_of}
 use Rattle.rules.specs.Bands.{excluded}
 use Rattle.ranges.specs.Reach.{hit, Table, Flags}
 use Rattle.chains.specs.Last.{last_index}
-use Rattle.plan.specs.declared.Chain.{Chain}
-use Rattle.plan.specs.declared.Chain.TheVariants.{Good, Bad}
+use Rattle.plan.specs.declared.GoodChain.{GoodChain}
 
-abbrev pub finding_of : Chain → Finding
-finding_of (Good np last) = Fine
-finding_of (Bad g place) = Ground g place
+abbrev pub finding_of : Result GoodChain Refusal → Finding
+finding_of (Ok c) = Ok tt
+finding_of (Err r) = Err r
 
 -- after a good chain with np pilots: the table of ranges covers what is excluded, and the lists hold the pilots and their records
 pub record Noted (d : Device) (s : List ℕ) (np : ℕ) (reach hot pil rec : List ℕ) : Type 0 where
@@ -30,6 +29,6 @@ pub record Noted (d : Device) (s : List ℕ) (np : ℕ) (reach hot pil rec : Lis
   pub plc_high : (plan_of s).plc ≤ d.high_plc
 
 -- the tables, and the last record of the chain; nothing is said of either where a ground holds
-abbrev pub Filled : Chain → Device → List ℕ → List ℕ → List ℕ → List ℕ → List ℕ → Type 0
-Filled (Good np last) d s reach hot pil rec = Noted d s np reach hot pil rec × (last ≡ last_index s)
-Filled (Bad g place) d s reach hot pil rec = Unit {0}
+abbrev pub Filled : Result GoodChain Refusal → Device → List ℕ → List ℕ → List ℕ → List ℕ → List ℕ → Type 0
+Filled (Ok c) d s reach hot pil rec = Noted d s c.pilots reach hot pil rec × (c.last ≡ last_index s)
+Filled (Err r) d s reach hot pil rec = Unit {0}

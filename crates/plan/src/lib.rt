@@ -16,13 +16,13 @@ ghost use Rattle.plan.specs.Walk.{PutIf, Taken, Kept};
 use ranges::note_if;
 use recordgrounds::record_ground;
 use records::{Record, bad_length, record_at};
-use rules::Device;
+use rules::{Device, Refusal};
 
-// A good chain with so many pilots and the index of its last record, or the number and place of the first ground.
+// A chain in which no ground holds: how many pilots it has, and the index of its last record.
 #[derive(Clone, Copy)]
-pub enum Chain {
-    Good(usize, usize),
-    Bad(u32, u32),
+pub struct GoodChain {
+    pub pilots: usize,
+    pub last: usize,
 }
 
 // A number put behind the first `np`, if `on`.
@@ -78,25 +78,34 @@ pub fn walk_chain(
     hot: &mut [u8; 256],
     pil: &mut [u16; 128],
     rec: &mut [u16; 128],
-) -> Chain
+) -> Result<GoodChain, Refusal>
     requires { Fits d × (bad_length plan.now ≡ false → Kept d plan.now (length plan.now / 8) from before reach.old hot.old pil.old rec.old) }
     ensures { (finding_of result ≡ grounds1to5 d plan.now) × Filled result d plan.now reach.new hot.new pil.new rec.new }
 {
     if bad_length(plan) {
-        return Chain::Bad(1, 0);
+        return Err(Refusal {
+            number: 1,
+            place: 0,
+        });
     }
     let records = plan.len() / 8;
     let mut i = from;
     let mut np = before;
+    // Counted by hand: each record names the next one, so that the data say how far i goes.
     loop {
         let e = record_at(plan, i);
-        let g = record_ground(d, records, np, e);
-        if g != 0 {
-            return Chain::Bad(g, i as u32);
+        if let Some(number) = record_ground(d, records, np, e) {
+            return Err(Refusal {
+                number,
+                place: i as u32,
+            });
         }
         np = take_record(d.subcarriers, np, e, reach, hot, pil, rec);
         if e.next == 0 {
-            return Chain::Good(np, i);
+            return Ok(GoodChain {
+                pilots: np,
+                last: i,
+            });
         }
         i = e.next;
     }

@@ -7,7 +7,7 @@ ghost use Rattle.std.specs.Prelude.{◌≡◌, take, IsTrue, IfSome};
 ghost use Rattle.std.specs.Io.KnownBytes.{Appends};
 ghost use Rattle.report.specs.PlanLine.{plan_line};
 
-use console::{Input, Streams};
+use console::Streams;
 use std::io::{Read, Write};
 
 // Prints the line of a plan; false where it was not written.
@@ -35,17 +35,13 @@ fn check_input<I: Read, O: Write, E: Write>(streams: &mut Streams<I, O, E>) -> b
         (λ xs. Appends (O.contents streams.old.output) (O.contents streams.new.output) (plan_line (take 65536 xs))) }
 {
     let mut buf = io::large_buffer();
-    match console::read(streams, &mut buf) {
-        Input::Failed => {
-            console::tell_unread(streams, b"plancheck");
-            false
-        }
-        Input::Bytes(n) => {
-            let printed = print_plan(streams, &buf[..n]);
-            read_rest(streams, n, &mut buf);
-            printed
-        }
-    }
+    let Some(n) = console::read(streams, &mut buf) else {
+        console::tell_unread(streams, b"plancheck");
+        return false;
+    };
+    let printed = print_plan(streams, &buf[..n]);
+    read_rest(streams, n, &mut buf);
+    printed
 }
 
 fn main(rt: HostRuntime) {

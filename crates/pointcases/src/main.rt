@@ -5,14 +5,13 @@
 #![tactic(auto)]
 
 use console::Standard;
-use modulator::{LineAnswer, OnLine};
-use points::PointAnswer;
-use scaling::{RootAnswer, ScaledAnswer, ScaledPoint};
-use values::ValueAnswer;
+use modulator::OnLine;
+use rules::Refusal;
+use scaling::ScaledPoint;
 
 // The checksum with number and place of a refusal more.
-fn mixed_refusal(sum: u32, number: u32, place: u32) -> u32 {
-    sums::mixed(sums::mixed(sum, number), place)
+fn mixed_refusal(sum: u32, refusal: Refusal) -> u32 {
+    sums::mixed(sums::mixed(sum, refusal.number), refusal.place)
 }
 
 // The checksum with a coordinate more: its sign, then its absolute value.
@@ -23,8 +22,8 @@ fn mixed_coordinate(sum: u32, c: i32) -> u32 {
 // The checksum with the point of a value more.
 fn mixed_point(sum: u32, load: u32, value: u32) -> u32 {
     match points::point_of(load, value) {
-        PointAnswer::At(p) => mixed_coordinate(mixed_coordinate(sum, p.x), p.y),
-        PointAnswer::Refused(number, place) => mixed_refusal(sum, number, place),
+        Ok(p) => mixed_coordinate(mixed_coordinate(sum, p.x), p.y),
+        Err(refusal) => mixed_refusal(sum, refusal),
     }
 }
 
@@ -32,8 +31,7 @@ fn mixed_point(sum: u32, load: u32, value: u32) -> u32 {
 fn all_points(load: u32) -> u32 {
     let mut sum: u32 = 0;
     for v in 0..16401u32 {
-        let next = mixed_point(sum, load, v);
-        sum = next;
+        sum = mixed_point(sum, load, v);
     }
     mixed_point(mixed_point(sum, load, 65536), load, 4294967295)
 }
@@ -46,20 +44,19 @@ fn mixed_singles(sum: u32, s: ScaledPoint) -> u32 {
 // The checksum with the scaled point of a value more.
 fn mixed_scaled(sum: u32, load: u32, value: u32) -> u32 {
     match scaling::scaled_of(load, value) {
-        ScaledAnswer::At(s) => mixed_singles(sum, s),
-        ScaledAnswer::Refused(number, place) => mixed_refusal(sum, number, place),
+        Ok(s) => mixed_singles(sum, s),
+        Err(refusal) => mixed_refusal(sum, refusal),
     }
 }
 
 // The number under the root first, then the checksum with the scaled points of all values more.
 fn all_scaled(load: u32) -> u32 {
     let mut sum: u32 = match scaling::root_of(load) {
-        RootAnswer::Root(d) => d,
-        RootAnswer::Refused(number, place) => mixed_refusal(0, number, place),
+        Ok(d) => d,
+        Err(refusal) => mixed_refusal(0, refusal),
     };
     for v in 0..16401u32 {
-        let next = mixed_scaled(sum, load, v);
-        sum = next;
+        sum = mixed_scaled(sum, load, v);
     }
     mixed_scaled(mixed_scaled(sum, load, 65536), load, 4294967295)
 }
@@ -81,8 +78,8 @@ fn coordinate(k: u32) -> i32 {
 // The checksum with the value of a point more.
 fn mixed_value(sum: u32, load: u32, x: i32, y: i32) -> u32 {
     match values::value_of(load, x, y) {
-        ValueAnswer::Value(v) => sums::mixed(sum, v),
-        ValueAnswer::Refused(number, place) => mixed_refusal(sum, number, place),
+        Ok(v) => sums::mixed(sum, v),
+        Err(refusal) => mixed_refusal(sum, refusal),
     }
 }
 
@@ -90,8 +87,7 @@ fn mixed_value(sum: u32, load: u32, x: i32, y: i32) -> u32 {
 fn row_of_values(sum: u32, load: u32, x: i32) -> u32 {
     let mut mix = sum;
     for k in 0..263u32 {
-        let next = mixed_value(mix, load, x, coordinate(k));
-        mix = next;
+        mix = mixed_value(mix, load, x, coordinate(k));
     }
     mix
 }
@@ -100,8 +96,7 @@ fn row_of_values(sum: u32, load: u32, x: i32) -> u32 {
 fn all_values(load: u32) -> u32 {
     let mut sum: u32 = 0;
     for k in 0..263u32 {
-        let next = row_of_values(sum, load, coordinate(k));
-        sum = next;
+        sum = row_of_values(sum, load, coordinate(k));
     }
     sum
 }
@@ -119,8 +114,8 @@ fn mixed_on_line(sum: u32, line: OnLine) -> u32 {
 // The checksum with the answer for a cell more.
 fn mixed_line(sum: u32, cell: u16, load: u32, minus: bool) -> u32 {
     match modulator::on_line(cell, load, minus) {
-        LineAnswer::Is(line) => mixed_on_line(sum, line),
-        LineAnswer::Refused(number, place) => mixed_refusal(sum, number, place),
+        Ok(line) => mixed_on_line(sum, line),
+        Err(refusal) => mixed_refusal(sum, refusal),
     }
 }
 
@@ -133,8 +128,7 @@ fn mixed_cell(sum: u32, cell: u16, load: u32) -> u32 {
 fn all_lines(load: u32) -> u32 {
     let mut sum: u32 = 0;
     for cell in 32766..32776u16 {
-        let next = mixed_cell(sum, cell, load);
-        sum = next;
+        sum = mixed_cell(sum, cell, load);
     }
     mixed_cell(mixed_cell(mixed_cell(sum, 65535, load), 0, load), 1, load)
 }
@@ -160,8 +154,8 @@ const LOADS: [u32; 20] = [
 
 fn main(rt: HostRuntime) {
     let mut streams = console::standard(&rt);
-    for i in 0..20usize {
-        if !print_load(&mut streams, LOADS[i]) {
+    for load in LOADS {
+        if !print_load(&mut streams, load) {
             return;
         }
     }

@@ -14,8 +14,10 @@ use Rattle.counting.proofs.Bools.{and_left, and_right, by_test, conflict}
 use Rattle.points.specs.declared.Point.{Point}
 use Rattle.gray.specs.Gray.{gray}
 use Rattle.points.specs.Points.{at, even_point, odd_point, point_of, load_listed}
-use Rattle.points.specs.declared.PointAnswer.TheVariants as a_point
-use Rattle.points.specs.Answers.{point_answer}
+use Rattle.points.specs.Answers.{PointAnswer, point_answer}
+use Rattle.rules.specs.Refusals.{refused_by}
+use Rattle.rules.proofs.Findings.{not_fine}
+use Rattle.std.specs.Prelude.{Ok}
 use Rattle.gray.specs.Positions.{is_gray, bits_of}
 use Rattle.points.specs.Back.{in_square, unsquare, in_cross, uncross, unrectangle, inside, back}
 use Rattle.gray.proofs.GrayLaws.{gray_in, small_power, bits_of_gray, gray_bits_of, bits_of_lt}
@@ -157,15 +159,15 @@ module _ (m : ℕ) (k : Covered m) where
 
 -- ---- the answer, ground by ground
 
-pub point_22 : (m v : ℕ) → load_listed m ≡ false → point_answer m v ≡ a_point.Refused 22 m
+pub point_22 : (m v : ℕ) → load_listed m ≡ false → point_answer m v ≡ refused_by 22 m
 unfolding point_answer
 point_22 m v t = rw t refl
 
-pub point_23 : (m v : ℕ) → load_listed m ≡ true → 2 ^ m ≤ v → point_answer m v ≡ a_point.Refused 23 v
+pub point_23 : (m v : ℕ) → load_listed m ≡ true → 2 ^ m ≤ v → point_answer m v ≡ refused_by 23 v
 unfolding point_answer
 point_23 m v t h = rw (t, le-ltb v (2 ^ m) h) refl
 
-pub point_at : (m v : ℕ) → load_listed m ≡ true → v < 2 ^ m → point_answer m v ≡ a_point.At (point_of m v)
+pub point_at : (m v : ℕ) → load_listed m ≡ true → v < 2 ^ m → point_answer m v ≡ Ok (point_of m v)
 unfolding point_answer
 point_at m v t h = rw (t, lt-ltb v (2 ^ m) h) refl
 
@@ -176,16 +178,16 @@ pub record Answered (m v : ℕ) (p : Point) : Type 0 where
   pub value : v < 2 ^ m
   pub same : point_of m v ≡ p
 
-pub answered : (m v : ℕ) (p : Point) → point_answer m v ≡ a_point.At p → Answered m v p
+pub answered : (m v : ℕ) (p : Point) → point_answer m v ≡ Ok p → Answered m v p
 unfolding point_answer
 answered m v p e =
     by_test (load_listed m)
     (λ t. by_test (ltb v (2 ^ m))
     (λ u.
-    let r : a_point.At (point_of m v) ≡ a_point.At p = rw (t, u) at e in
+    let r : ◌≡◌ {A = PointAnswer} (Ok (point_of m v)) (Ok p) = rw (t, u) at e in
     record { load = t; value = ltb-true v (2 ^ m) u; same = cc })
-    (λ u. let r : a_point.Refused 23 v ≡ a_point.At p = rw (t, u) at e in let z : ◌≡◌ {A = ℕ} 0 1 = cc in absurd (omega arith)))
-    (λ t. let r : a_point.Refused 22 m ≡ a_point.At p = rw t at e in let z : ◌≡◌ {A = ℕ} 0 1 = cc in absurd (omega arith))
+    (λ u. absurd (not_fine (rw (t, u) at e))))
+    (λ t. absurd (not_fine (rw t at e)))
 
 -- ---- no coordinate of a listed load is above 127
 

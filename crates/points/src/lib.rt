@@ -10,19 +10,13 @@ ghost use Rattle.points.specs.Table.{PointTable};
 ghost use Rattle.points.specs.Squares.{SquareClaims};
 
 use gray::{gray_value, magnitude, power, with_sign};
+use rules::Refusal;
 
 // A whole-number point.
 #[derive(Clone, Copy)]
 pub struct Point {
     pub x: i32,
     pub y: i32,
-}
-
-// The answer to which point: the point, or refused with number and place.
-#[derive(Clone, Copy)]
-pub enum PointAnswer {
-    At(Point),
-    Refused(u32, u32),
 }
 
 // Whether a load is one of those that request 04 lists.
@@ -91,16 +85,22 @@ pub fn point_at(load: u32, value: u32) -> Point
 }
 
 // The point of a value: refused by 22, then 23.
-pub fn point_of(load: u32, value: u32) -> PointAnswer
+pub fn point_of(load: u32, value: u32) -> Result<Point, Refusal>
     ensures { result ≡ point_answer load value }
 {
     if !load_listed(load) {
-        return PointAnswer::Refused(22, load);
+        return Err(Refusal {
+            number: 22,
+            place: load,
+        });
     }
     if power(load) <= value {
-        return PointAnswer::Refused(23, value);
+        return Err(Refusal {
+            number: 23,
+            place: value,
+        });
     }
-    PointAnswer::At(point_at(load, value))
+    Ok(point_at(load, value))
 }
 
 // The ends of every listed load and points of it: a table.

@@ -1,5 +1,5 @@
--- Laws of the loops over a profile: loads joined, their range, and the table of limits. Assumes nothing.
-use Prim.Native.Nat.{ℕ, ◌+◌, ◌≤◌, ◌<◌}
+-- Laws of the loop over a profile: loads joined. Assumes nothing.
+use Prim.Native.Nat.{ℕ, ◌+◌, ◌<◌}
 use mathlib.Core.Path.{◌≡◌, refl, sym, ap, ◌∙◌}
 use mathlib.Core.Logic.{by_cases}
 use mathlib.Core.Bool.{Bool, true, false, not, ◌&&◌}
@@ -34,17 +34,3 @@ joined_next w k s x h ex e i l =
     (λ c.
     let n : i ≡ k = omega arith in
     rw n (bit_listed (profile_load (get_or w k 0)) (ap (λ (m : ℕ). eqb m 0) (sym ex) ∙ and_right (eqb s 0) (eqb x 0) both)))
-
--- ---- the range
-
-pub record Ranged (w : List ℕ) (low high k : ℕ) : Type 0 where
-  pub within : (i : ℕ) → i < k → (low ≤ get_or w i 0) × (get_or w i 0 ≤ high)
-
--- wider ends, and one more load between them
-pub ranged_next : (w : List ℕ) (low high low' high' k : ℕ) → Ranged w low high k → low' ≤ low → high ≤ high' → low' ≤ get_or w k 0 → get_or w k 0 ≤ high' → Ranged w low' high' (k + 1)
-ranged_next w low high low' high' k r a b c d = record {
-  within = λ i h.
-      by_cases (dec_lt i k)
-      (λ l. (omega (arith, (r.within i l).0), omega (arith, (r.within i l).1)))
-      (λ l. let n : i ≡ k = omega arith in rw n (c, d));
-}

@@ -4,12 +4,10 @@
 
 ghost use Rattle.std.specs.Prelude.{◌≡◌, true, not, ℕ, ◌≤◌, ◌<◌, length, get_or};
 ghost use Rattle.counting.specs.Search.{bit, lowest, tabulate};
-ghost use Rattle.counting.specs.Answer.{place_of};
 ghost use Rattle.rules.specs.Fits.{Fits, capacity};
 ghost use Rattle.rules.specs.Loads.{profile_load, ground25, load_limit, limit_at};
 
-use counting::Found;
-use rules::{Device, Finding};
+use rules::{Device, Refusal};
 
 pub mod table;
 
@@ -34,43 +32,45 @@ fn all_listed(profile: &[u8]) -> bool
     ensures { result ≡ true → (k : ℕ) → k < length profile.now → profile_load (get_or profile.now k 0) ≡ true }
 {
     let mut some: u8 = 0;
-    let mut k: usize = 0;
-    while k < profile.len() {
-        some = some | unlisted(profile[k]);
-        k = k + 1;
+    for load in profile {
+        some |= unlisted(*load);
     }
     some == 0
 }
 
 // The lowest subcarrier whose load is not listed, by looking at one after the other.
-fn search_unlisted(profile: &[u8]) -> Found
+fn search_unlisted(profile: &[u8]) -> Option<u32>
     requires { length profile.now ≤ capacity }
-    ensures { place_of result ≡ lowest (λ k. not (profile_load (get_or profile.now k 0))) (length profile.now) }
+    ensures { result ≡ lowest (λ k. not (profile_load (get_or profile.now k 0))) (length profile.now) }
 {
-    let mut k: usize = 0;
-    while k < profile.len() {
-        if unlisted(profile[k]) != 0 {
-            return Found::At(k as u32);
+    for (k, load) in profile.iter().enumerate() {
+        if unlisted(*load) != 0 {
+            return Some(k as u32);
         }
-        k = k + 1;
     }
-    Found::Nothing
+    None
 }
 
 // Ground 25 of a profile.
-pub fn profile_ground(d: Device, profile: &[u8]) -> Finding
+pub fn profile_ground(d: Device, profile: &[u8]) -> Result<(), Refusal>
     requires { Fits d }
     ensures { result ≡ ground25 d.subcarriers profile.now }
 {
     if profile.len() != d.subcarriers {
-        return Finding::Ground(25, 0);
+        return Err(Refusal {
+            number: 25,
+            place: 0,
+        });
     }
     if all_listed(profile) {
-        return Finding::Fine;
+        return Ok(());
     }
     match search_unlisted(profile) {
-        Found::At(k) => Finding::Ground(25, k),
-        Found::Nothing => Finding::Fine,
+        Some(k) => Err(Refusal {
+            number: 25,
+            place: k,
+        }),
+        None => Ok(()),
     }
 }
 
@@ -81,31 +81,15 @@ pub struct Range {
     pub high: u8,
 }
 
-// The lower of two numbers.
-fn lower(a: u8, b: u8) -> u8
-    ensures { (result ≤ a) × (result ≤ b) }
-{
-    if a < b { a } else { b }
-}
-
-// The higher of two numbers.
-fn higher(a: u8, b: u8) -> u8
-    ensures { (a ≤ result) × (b ≤ result) }
-{
-    if a < b { b } else { a }
-}
-
 // The range of the loads. Where both ends are one, every subcarrier has that load.
 pub fn load_range(profile: &[u8]) -> Range
     ensures { (k : ℕ) → k < length profile.now → (result.low ≤ get_or profile.now k 0) × (get_or profile.now k 0 ≤ result.high) }
 {
     let mut low: u8 = 255;
     let mut high: u8 = 0;
-    let mut k: usize = 0;
-    while k < profile.len() {
-        low = lower(low, profile[k]);
-        high = higher(high, profile[k]);
-        k = k + 1;
+    for load in profile {
+        low = low.min(*load);
+        high = high.max(*load);
     }
     Range { low, high }
 }
@@ -132,9 +116,7 @@ pub fn limits(profile: &[u8], limits: &mut [u16])
     ensures { limits.new ≡ tabulate (limit_at profile.now) (length limits.old) }
 {
     let all = table::LIMITS;
-    let mut k: usize = 0;
-    while k < limits.len() {
-        limits[k] = all[load_index(profile[k])];
-        k = k + 1;
+    for (k, limit) in limits.iter_mut().enumerate() {
+        *limit = all[load_index(profile[k])];
     }
 }

@@ -105,10 +105,8 @@ fn block(
     ensures { Sweep reach.now size lo.new hi.new result.n result.s result.e (from + 16) × (length lo.new ≡ 2048) × (length hi.new ≡ 2048) }
 {
     let mut p = o;
-    let mut k = from;
-    while k < from + 16 {
+    for k in from..from + 16 {
         p = step(reach, size, k, lo, hi, p);
-        k += 1;
     }
     p
 }
@@ -125,18 +123,11 @@ pub fn runs(
     ensures { Runs (hit reach.now) size lo.new hi.new result × (result ≤ 2048) × (length lo.new ≡ 2048) × (length hi.new ≡ 2048) }
 {
     let mut o = Open { n: 0, s: 0, e: 0 };
-    let mut b: usize = 0;
-    while 16 * b < size {
-        let flag = hot[b];
-        let at = 16 * b;
-        b += 1;
-        if flag == 0 {
+    for b in 0..size / 16 {
+        if hot[b] == 0 {
             continue;
         }
-        o = block(reach, size, at, lo, hi, o);
+        o = block(reach, size, 16 * b, lo, hi, o);
     }
-    let n = o.n;
-    let s = o.s;
-    let e = o.e;
-    close(reach, size, size, lo, hi, n, s, e)
+    close(reach, size, size, lo, hi, o.n, o.s, o.e)
 }

@@ -1,12 +1,12 @@
 -- N_I from the marks, and an answer by the last ground. Assumes nothing.
 use mathlib.Core.Path.{◌≡◌, sym, ap}
 use mathlib.Core.List.{List}
-use mathlib.Core.Option.{Option, none, some}
 use Prim.Native.Nat.{ℕ}
 use Rattle.counting.specs.Search.{count, is_zero}
 use Rattle.counting.proofs.Laws.{count_ext}
 use Rattle.rules.specs.declared.Device.{Device}
-use Rattle.rules.specs.declared.Verdict.TheVariants.{Accepted, Refused}
+use Rattle.rules.specs.Refusals.{refused_by}
+use Rattle.std.specs.Prelude.{Ok, Option, Some, None}
 use Rattle.rules.specs.Plan.{Plan}
 use Rattle.rules.specs.Roles.{ranked_count}
 use Rattle.rules.specs.Grounds.{ground?, answer}
@@ -19,8 +19,8 @@ unfolding ranked_count is_zero
 zeros_is d p m w = count_ext _ _ d.subcarriers (zero_ranked d p m w)
 
 -- the answer by the last ground
-pub whole : (o : Option ℕ) (g n : ℕ) → o ≡ none → Accepted n ≡ answer (ground? g o) n
+pub whole : (o : Option ℕ) (g n : ℕ) → o ≡ None → Ok n ≡ answer (ground? g o) n
 whole o g n e = sym (ap (λ (x : Option ℕ). answer (ground? g x) n) e)
 
-pub halt : (o : Option ℕ) (g k n : ℕ) → o ≡ some k → Refused g k ≡ answer (ground? g o) n
+pub halt : (o : Option ℕ) (g k n : ℕ) → o ≡ Some k → refused_by g k ≡ answer (ground? g o) n
 halt o g k n e = sym (ap (λ (x : Option ℕ). answer (ground? g x) n) e)

@@ -1,7 +1,7 @@
 -- Ground 15, the last in checking order. Assumes nothing.
 use Rattle.counting.specs.Search.{when}
 use Rattle.rules.specs.declared.Device.{Device}
-use Rattle.rules.specs.declared.Finding.{Finding}
+use Rattle.rules.specs.Refusals.{Finding}
 use Rattle.rules.specs.Plan.{Plan}
 use Rattle.rules.specs.Grounds.{ground?, many_ranked}
 

@@ -11,7 +11,7 @@ ghost use Rattle.rules.specs.Fits.{Fits};
 ghost use Rattle.marks.specs.Marked.{Marked};
 ghost use Rattle.ranked.specs.Ground15.{ground15};
 
-use rules::{Device, Verdict};
+use rules::{Device, Refusal};
 
 // A count of zeros with one cell more. The counter has sixteen bits so that the loop over 4,096 cells is vectorised.
 fn one_more(x: u16, n: u16) -> u16
@@ -30,22 +30,23 @@ fn zeros(m: &[u16; 4096], size: usize) -> usize
     ensures { (result ≡ count (is_zero m.now) size) × (result ≤ 4096) }
 {
     let mut n: u16 = 0;
-    let mut k: usize = 0;
-    while k < size {
-        n = one_more(m[k], n);
-        k += 1;
+    for x in &m[..size] {
+        n = one_more(*x, n);
     }
-    n as usize
+    usize::from(n)
 }
 
 // Ground 15, and N_I.
-pub fn ground_15(d: Device, plan: &[u8], m: &[u16; 4096]) -> Verdict
+pub fn ground_15(d: Device, plan: &[u8], m: &[u16; 4096]) -> Result<u32, Refusal>
     requires { Fits d × Marked d (plan_of plan.now) m.now }
     ensures { result ≡ answer (ground15 d (plan_of plan.now)) (ranked_count d (plan_of plan.now)) }
 {
     let ni = zeros(m, d.subcarriers);
     if d.ranked_max < ni {
-        return Verdict::Refused(15, 0);
+        return Err(Refusal {
+            number: 15,
+            place: 0,
+        });
     }
-    Verdict::Accepted(ni as u32)
+    Ok(ni as u32)
 }

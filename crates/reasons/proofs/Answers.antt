@@ -7,20 +7,18 @@ use lib.Dec.{ltb}
 use borrow.Author.Tests.{lt-leb}
 use Rattle.counting.proofs.Bools.{by_test}
 use Rattle.rules.specs.declared.Device.{Device}
-use Rattle.rules.specs.declared.Finding.{Finding}
-use Rattle.rules.specs.declared.Finding.TheVariants.{Fine, Ground}
+use Rattle.rules.specs.declared.Reason.TheVariants.{PilotBelow, PilotAbove, PilotBy}
+use Rattle.rules.specs.declared.Refusal.{Refusal}
+use Rattle.rules.specs.Refusals.{Finding, RoleAnswer, WhyAnswer, refused_by}
+use Rattle.std.specs.Prelude.{Ok, Err}
 use Rattle.rules.specs.declared.Role.{Role}
 use Rattle.rules.specs.declared.Role.TheVariants.{Excluded, Plc, Continuous, Scattered, Data}
-use Rattle.rules.specs.declared.RoleAnswer.{RoleAnswer}
-use Rattle.rules.specs.declared.RoleAnswer.TheVariants as a-role
 use Rattle.rules.specs.Device.{phases}
 use Rattle.rules.specs.Plan.{plan_of}
 use Rattle.rules.specs.Roles.{one_of, predefined, role}
 use Rattle.rules.specs.Grounds.{grounds1to15}
 use Rattle.rules.specs.Answers.{role_in, role_answer}
-use Rattle.rules.specs.declared.WhyAnswer.{WhyAnswer}
-use Rattle.rules.specs.declared.WhyAnswer.TheVariants.{PilotBelow, PilotAbove, PilotBy, Refused}
-use Rattle.reasons.specs.Reasons.{makes_pilot, first_record, distance_reason, pilot_reason, with_reason, why_answer, named}
+use Rattle.reasons.specs.Reasons.{makes_pilot, first_record, distance_reason, pilot_reason, with_reason, why_answer, role_of, named}
 
 -- why a subcarrier is a continuous pilot, by the tests
 module _ (d : Device) (s : List ℕ) (k : ℕ) where
@@ -43,28 +41,28 @@ module _ (d : Device) (s : List ℕ) (k : ℕ) where
 module _ (d : Device) (s : List ℕ) (k j : ℕ) where
   -- the answer as a function of that of `role`
   unfoldable answered : RoleAnswer → WhyAnswer
-  answered a = elim a [ a-role.Is r ↦ with_reason d s k j r | a-role.Refused n place ↦ Refused n place ]
+  answered a = elim a [ Ok r ↦ Ok (with_reason d s k j r) | Err r ↦ Err r ]
 
-  pub why_is : (r : Role) → role_answer d s k j ≡ a-role.Is r → why_answer d s k j ≡ with_reason d s k j r
+  pub why_is : (r : Role) → role_answer d s k j ≡ Ok r → why_answer d s k j ≡ Ok (with_reason d s k j r)
   unfolding why_answer answered
   why_is r e = ap answered e
 
-  pub why_refused : (n place : ℕ) → role_answer d s k j ≡ a-role.Refused n place → why_answer d s k j ≡ Refused n place
+  pub why_refused : (r : Refusal) → role_answer d s k j ≡ Err r → why_answer d s k j ≡ Err r
   unfolding why_answer answered
-  why_refused n place e = ap answered e
+  why_refused r e = ap answered e
 
   -- ---- the role that is named
 
-  distance_named : named (distance_reason d s k) ≡ a-role.Is Continuous
-  distance_named = by_test (ltb k (plan_of s).plc) (λ e. ap named (below_is d s k e)) (λ e. ap named (above_is d s k e))
+  distance_named : role_of (distance_reason d s k) ≡ Continuous
+  distance_named = by_test (ltb k (plan_of s).plc) (λ e. ap role_of (below_is d s k e)) (λ e. ap role_of (above_is d s k e))
 
-  pilot_named : named (pilot_reason d s k) ≡ a-role.Is Continuous
+  pilot_named : role_of (pilot_reason d s k) ≡ Continuous
   pilot_named =
       by_test (one_of k (predefined d (plan_of s).plc))
-      (λ e. ap named (predefined_is d s k e) ∙ distance_named)
-      (λ e. ap named (further_is d s k e))
+      (λ e. ap role_of (predefined_is d s k e) ∙ distance_named)
+      (λ e. ap role_of (further_is d s k e))
 
-  reason_named : (r : Role) → named (with_reason d s k j r) ≡ a-role.Is r
+  reason_named : (r : Role) → role_of (with_reason d s k j r) ≡ r
   unfolding with_reason
   reason_named Excluded = refl
   reason_named Plc = refl
@@ -74,8 +72,8 @@ module _ (d : Device) (s : List ℕ) (k j : ℕ) where
 
   answer_named : (a : RoleAnswer) → named (answered a) ≡ a
   unfolding answered
-  answer_named (a-role.Is r) = reason_named r
-  answer_named (a-role.Refused n place) = refl
+  answer_named (Ok r) = ap Ok (reason_named r)
+  answer_named (Err r) = refl
 
   pub same_role : named (why_answer d s k j) ≡ role_answer d s k j
   unfolding why_answer answered
@@ -84,14 +82,14 @@ module _ (d : Device) (s : List ℕ) (k j : ℕ) where
   -- ---- of an accepted plan, a subcarrier and a phase in their ranges
 
   after_finding : Finding → RoleAnswer
-  after_finding f = elim f [ Fine ↦ role_in d s k j | Ground n place ↦ a-role.Refused n place ]
+  after_finding f = elim f [ Ok _ ↦ role_in d s k j | Err r ↦ Err r ]
 
   after16 : Bool → RoleAnswer
-  after16 b = elim b [ true ↦ a-role.Refused 16 0 | false ↦ a-role.Is (role d (plan_of s) j k) ]
+  after16 b = elim b [ true ↦ refused_by 16 0 | false ↦ Ok (role d (plan_of s) j k) ]
 
-  role_answered : grounds1to15 d s ≡ Fine → k < d.subcarriers → j < phases → role_answer d s k j ≡ a-role.Is (role d (plan_of s) j k)
+  role_answered : grounds1to15 d s ≡ Ok tt → k < d.subcarriers → j < phases → role_answer d s k j ≡ Ok (role d (plan_of s) j k)
   unfolding role_answer role_in after_finding after16
   role_answered fine l h = ap after_finding fine ∙ (λ i. after16 (lt-leb d.subcarriers k l i || lt-leb phases j h i))
 
-  pub why_answered : grounds1to15 d s ≡ Fine → k < d.subcarriers → j < phases → why_answer d s k j ≡ with_reason d s k j (role d (plan_of s) j k)
+  pub why_answered : grounds1to15 d s ≡ Ok tt → k < d.subcarriers → j < phases → why_answer d s k j ≡ Ok (with_reason d s k j (role d (plan_of s) j k))
   why_answered fine l h = why_is (role d (plan_of s) j k) (role_answered fine l h)

@@ -2,7 +2,7 @@
 use Prim.Native.Nat.{ℕ, ◌+◌, ◌<◌}
 use mathlib.Core.Path.{◌≡◌, refl, sym, ap, ◌∙◌}
 use mathlib.Core.Bool.{Bool, true, false}
-use mathlib.Core.Option.{Option, get_or}
+use Rattle.std.specs.Prelude.{Option, unwrap_or}
 use mathlib.Core.List.{List}
 use native.Mathlib.Omega.{arith}
 use lib.Dec.{eqb}
@@ -51,7 +51,7 @@ module _ (d : Device) (s : List ℕ) (k : ℕ) (below : k < d.subcarriers) (has-
   pub scattered_phase_is : scattered_phase d s k ≡ one_phase
   unfolding scattered_phase
   scattered_phase_is =
-      ap (λ (o : Option ℕ). get_or o 0)
+      ap (λ (o : Option ℕ). unwrap_or o 0)
       (lowest_at (λ q. is_scattered (role d (plan_of s) q k)) one_phase phases one_below
       (test_at one_phase one_below ∙ eq-eqb one_phase one_phase refl)
       (λ q _ l. test_at q (omega (arith, one_below)) ∙ ne_eqb q one_phase (λ e. omega arith)))

@@ -8,7 +8,8 @@ use lib.ListN.{length}
 use borrow.Author.Tests.{eqb-true, eqb-false}
 use Rattle.counting.proofs.Bools.{Less, decide, by_test}
 use Rattle.rules.specs.declared.Device.{Device}
-use Rattle.rules.specs.declared.Finding.TheVariants.{Fine}
+use Rattle.std.specs.Prelude.{Ok, IsOkAnd}
+use Rattle.rules.specs.Refusals.{WhyAnswer}
 use Rattle.rules.specs.Device.{phases}
 use Rattle.rules.specs.Plan.{Entry, Plan, plan_of, chain, entry, is_range, is_pilot}
 use Rattle.rules.specs.Bands.{any, covers, excluded}
@@ -26,7 +27,7 @@ use Rattle.reasons.proofs.Firsts.{on_here, first_from, any_only}
 use Rattle.reasons.proofs.Phases.{one_phase, pattern_is, scattered_phase_is, one_phase_lem}
 use Rattle.reasons.proofs.Answers.{below_is, above_is, predefined_is, further_is, same_role, why_answered}
 
-module _ (d : Device) (fits : Fits d) (s : List ℕ) (fine : grounds1to15 d s ≡ Fine) (k j : ℕ) (below : k < d.subcarriers) (phase : j < phases) where
+module _ (d : Device) (fits : Fits d) (s : List ℕ) (fine : grounds1to15 d s ≡ Ok tt) (k j : ℕ) (below : k < d.subcarriers) (phase : j < phases) where
   abbrev p : Plan
   p = plan_of s
 
@@ -99,5 +100,5 @@ why_claims d fits s k j = record {
   same_role = same_role d s k j;
   true_reason = λ n e l h.
       let fine = no_ground d s n (sym e) in
-      subst (Holds d s k j) (sym (why_answered d s k j fine l h)) (role_holds d fits s fine k j l h);
+      subst (λ (a : WhyAnswer). IsOkAnd a (Holds d s k j)) (sym (why_answered d s k j fine l h)) (role_holds d fits s fine k j l h);
 }

@@ -1,11 +1,10 @@
 -- That the reason is true (document 02, Req 08: "The ground is proved true: that record covers it, and no earlier one on the chain does").
 -- Statements only. Assumes nothing.
-use Rattle.std.specs.Prelude.{ℕ, ◌+◌, ◌-◌, ◌<◌, ◌≡◌, Bool, true, false, ◌&&◌, List, ◌∷◌, ◌++◌, leb, ltb}
+use Rattle.std.specs.Prelude.{ℕ, ◌+◌, ◌-◌, ◌<◌, ◌≡◌, Bool, true, false, ◌&&◌, List, ◌∷◌, ◌++◌, leb, ltb, Ok, IsOkAnd}
 use Rattle.rules.specs.declared.Device.{Device}
 use Rattle.rules.specs.declared.Role.TheVariants.{Scattered, Data}
-use Rattle.rules.specs.declared.Verdict.TheVariants.{Accepted}
-use Rattle.rules.specs.declared.WhyAnswer.{WhyAnswer}
-use Rattle.rules.specs.declared.WhyAnswer.TheVariants.{ExcludedBy, PlcBy, PilotBelow, PilotAbove, PilotBy, ScatteredOnly, DataBut, Refused}
+use Rattle.rules.specs.declared.Reason.{Reason}
+use Rattle.rules.specs.declared.Reason.TheVariants.{ExcludedBy, PlcBy, PilotBelow, PilotAbove, PilotBy, ScatteredOnly, DataBut}
 use Rattle.rules.specs.Device.{phases}
 use Rattle.rules.specs.Plan.{Entry, plan_of, chain, entry, is_plc}
 use Rattle.rules.specs.Bands.{any}
@@ -33,9 +32,9 @@ pub record OnePhase (d : Device) (s : List ℕ) (k q : ℕ) : Type 0 where
   pub only : (j : ℕ) → j < phases → role d (plan_of s) j k ≡ Scattered → j ≡ q
   pub else_data : (j : ℕ) → j < phases → (j ≡ q → ⊥) → role d (plan_of s) j k ≡ Data
 
--- What each answer says of subcarrier k at phase j: the record is the first on the chain that covers or names it, for the PLC record 0; the
--- distance is one of the four and leads to k; the phase is the one and only. A refusal gives no reason.
-abbrev pub Holds : Device → List ℕ → ℕ → ℕ → WhyAnswer → Type 0
+-- What each reason says of subcarrier k at phase j: the record is the first on the chain that covers or names it, for the PLC record 0; the
+-- distance is one of the four and leads to k; the phase is the one and only.
+abbrev pub Holds : Device → List ℕ → ℕ → ℕ → Reason → Type 0
 Holds d s k j (ExcludedBy i) = FirstOn s (excludes k) (chain s) i
 Holds d s k j (PlcBy i) = (i ≡ 0) × FirstOn s (puts_plc d k) (chain s) i
 Holds d s k j (PilotBelow x) = (one_of x d.distances ≡ true) × (k + x ≡ (plan_of s).plc)
@@ -43,10 +42,9 @@ Holds d s k j (PilotAbove x) = (one_of x d.distances ≡ true) × (k ≡ (plan_o
 Holds d s k j (PilotBy i) = FirstOn s (makes_pilot k) (chain s) i
 Holds d s k j (ScatteredOnly q) = (q ≡ j) × OnePhase d s k q
 Holds d s k j (DataBut q) = (q ≡ j → ⊥) × OnePhase d s k q
-Holds d s k j (Refused n place) = ⊥
 
 pub record WhyClaims (d : Device) (s : List ℕ) (k j : ℕ) : Type 0 where
   -- the role it names is the one that `role` answers, and it is refused exactly as `role` is
   pub same_role : named (why_answer d s k j) ≡ role_answer d s k j
   -- of an accepted plan, a subcarrier and a phase in their ranges a reason is given, and it is true
-  pub true_reason : (n : ℕ) → verdict d s ≡ Accepted n → k < d.subcarriers → j < phases → Holds d s k j (why_answer d s k j)
+  pub true_reason : (n : ℕ) → verdict d s ≡ Ok n → k < d.subcarriers → j < phases → IsOkAnd (why_answer d s k j) (Holds d s k j)

@@ -7,7 +7,7 @@
 #![tactic(auto)]
 
 use console::Standard;
-use rules::{EmitterState, ListenAnswer, ReceiveAnswer, ReceiverState, SendAnswer, StartAnswer};
+use rules::{EmitterState, Heard, ReceiverState, RefusedStep};
 use trials::{Receiving, Sending};
 
 // The cells of a store, of a symbol, which has as many as there are subcarriers, and of the line.
@@ -79,7 +79,7 @@ fn send(
     let mut cells = [0u16; SYMBOL];
     let mut next = run;
     next.x = samples::draw(run.x, count, &mut cells);
-    if let SendAnswer::Sent(after) = trials::send(plan, profile, given, store, &cells, line) {
+    if let Ok(after) = trials::send(plan, profile, given, store, &cells, line) {
         next.emitter = after;
     }
     next
@@ -142,19 +142,19 @@ fn changed(line: &mut [u16; LINE], change: u32) -> u32 {
 }
 
 // The run with an answer counted; a refused receive is never given the state that it hands back.
-fn told(run: Run, answer: ReceiveAnswer) -> Run {
+fn told(run: Run, answer: Result<Heard<ReceiverState>, RefusedStep<ReceiverState>>) -> Run {
     let mut next = run;
     next.sum = sums::mixed_receive(run.sum, answer);
     match answer {
-        ReceiveAnswer::Warming(state) => {
+        Ok(Heard::Warming(state)) => {
             next.receiver = state;
             next.warmed = std::num::wrapping_add_u32(run.warmed, 1);
         }
-        ReceiveAnswer::Data(state, _) => {
+        Ok(Heard::Data(state, _)) => {
             next.receiver = state;
             next.handed = std::num::wrapping_add_u32(run.handed, 1);
         }
-        ReceiveAnswer::Refused(_, _, _) => {
+        Err(_) => {
             next.refused = std::num::wrapping_add_u32(run.refused, 1);
         }
     }
@@ -206,7 +206,7 @@ fn acts(
             return run;
         }
         let sending = send(run, given.act, plan, &profile, sent, &mut line);
-        let next = receive(
+        run = receive(
             sending,
             given,
             plan,
@@ -215,7 +215,6 @@ fn acts(
             &mut line,
             &mut buffer,
         );
-        run = next;
     }
     run
 }
@@ -232,10 +231,7 @@ fn mixed_tight(plan: &[u8], phase: u32, need: u32, store: &mut [u16; STORE]) -> 
 
 // A fresh emitter beside the receiver.
 fn fresh_emitter(plan: &[u8], phase: u32, store: &mut [u16; STORE]) -> EmitterState {
-    match trials::fresh_emitter(plan, phase, STORE, store) {
-        StartAnswer::Started(state) => state,
-        StartAnswer::Refused(_, _) => EmitterState { phase },
-    }
+    trials::fresh_emitter(plan, phase, STORE, store).unwrap_or(EmitterState { phase })
 }
 
 // The run of a case from its fresh start on, with the store in the checksum.
@@ -289,14 +285,14 @@ fn start(
     let answer = trials::fresh_receiver(plan, phase, STORE, store);
     let sum = sums::mixed_listen(tight, answer);
     match answer {
-        ListenAnswer::Refused(number, place) => console::print_refused(
+        Err(refusal) => console::print_refused(
             streams,
             b"receivecases",
-            number,
-            place,
+            refusal.number,
+            refusal.place,
             sums::mixed_cells(sum, store, STORE),
         ),
-        ListenAnswer::Started(state) => {
+        Ok(state) => {
             let run = started(streams, state, sum, plan, count, store);
             print_run(streams, run)
         }

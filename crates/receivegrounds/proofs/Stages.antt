@@ -3,7 +3,6 @@ use mathlib.Core.Path.{◌≡◌, refl, sym, ap, ◌∙◌, subst}
 use mathlib.Core.Logic.{⊎_elim}
 use mathlib.Core.Bool.{Bool, true, false, not, ◌&&◌, ◌||◌}
 use mathlib.Core.List.{List, ◌++◌}
-use mathlib.Core.Option.{Option}
 use Prim.Native.Nat.{ℕ, ◌-◌, ◌≤◌, ◌<◌}
 use native.Mathlib.Omega.{arith}
 use lib.Dec.{leb, ltb, eqb}
@@ -11,10 +10,8 @@ use lib.ListN.{length, length-append, get_or-append}
 use borrow.Author.Tests.{le-ltb, le-leb, lt-leb, ltb-false}
 use Rattle.counting.specs.Search.{when, lowest}
 use Rattle.counting.proofs.Bools.{or_false, or_true, decide}
-use Rattle.rules.specs.declared.CountAnswer.{CountAnswer}
-use Rattle.rules.specs.declared.CountAnswer.TheVariants.{Count, Refused}
-use Rattle.rules.specs.declared.Finding.{Finding}
-use Rattle.rules.specs.declared.Finding.TheVariants.{Fine, Ground}
+use Rattle.rules.specs.Refusals.{Finding, CountAnswer, refused_by}
+use Rattle.std.specs.Prelude.{Ok, Err, Option}
 use Rattle.rules.specs.declared.ReceiverState.{ReceiverState}
 use Rattle.rules.specs.Device.{phases}
 use Rattle.rules.specs.Grounds.{◌else◌, ground?}
@@ -30,17 +27,17 @@ use Rattle.receivegrounds.specs.Stages.{early_grounds, late_grounds, early_answe
 use Rattle.receivegrounds.specs.InOrder.{Prepared}
 
 -- where there is no ground among two findings, neither is one
-pub fine_first : (f g : Finding) → Fine ≡ (f else g) → Fine ≡ f
-fine_first Fine g e = refl
-fine_first (Ground n place) g e = e
+pub fine_first : (f g : Finding) → Ok tt ≡ (f else g) → Ok tt ≡ f
+fine_first (Ok tt) g e = refl
+fine_first (Err r) g e = e
 
-pub fine_last : (f g : Finding) → Fine ≡ (f else g) → Fine ≡ g
-fine_last Fine g e = e
-fine_last (Ground n place) g e = absurd (no_ground n place (Ground n place) refl e)
+pub fine_last : (f g : Finding) → Ok tt ≡ (f else g) → Ok tt ≡ g
+fine_last (Ok tt) g e = e
+fine_last (Err r) g e = absurd (no_ground r.number r.place (Err r) refl e)
 
 -- nor does its test hold
-fine_test : (n : ℕ) (b : Bool) → Fine ≡ ground? n (when b 0) → b ≡ false
-fine_test n true e = absurd (no_ground n 0 (Ground n 0) refl e)
+fine_test : (n : ℕ) (b : Bool) → Ok tt ≡ ground? n (when b 0) → b ≡ false
+fine_test n true e = absurd (no_ground n 0 (refused_by n 0) refl e)
 fine_test n false e = refl
 
 -- a ground of two tests is the first or the second
@@ -51,11 +48,11 @@ parts n false q = refl
 -- ---- what is made of the plan
 
 -- a refusal is no count
-pub no_count : (n place k : ℕ) → Refused n place ≡ Count k → ⊥
+pub no_count : (n place k : ℕ) → ◌≡◌ {A = CountAnswer} (refused_by n place) (Ok k) → ⊥
 no_count n place k e = let z : ◌≡◌ {A = ℕ} 0 1 = cc in absurd (omega arith)
 
 -- where the answer is a count, at the phase by another name
-pub prepared : (F : Frame) (j k n : ℕ) (r : CountAnswer) (car kc flag : List ℕ) → j ≡ k → r ≡ Count n → MadeIf r F j car kc flag → F.depth ≤ phases → cells F ≤ length kc → cells F ≤ length flag → Prepared F k kc flag
+pub prepared : (F : Frame) (j k n : ℕ) (r : CountAnswer) (car kc flag : List ℕ) → j ≡ k → r ≡ Ok n → MadeIf r F j car kc flag → F.depth ≤ phases → cells F ≤ length kc → cells F ≤ length flag → Prepared F k kc flag
 prepared F j k n r car kc flag ej er w deep hk hf =
     let made = subst (λ (i : ℕ). Made F i car kc flag) ej (subst (λ (q : CountAnswer). MadeIf q F j car kc flag) er w) in
     record { shallow = deep; cells_fit = hk; flags_fit = hf; spots = made.spots; flags = made.flags }
@@ -80,7 +77,7 @@ module _ (F : Frame) (v : Receiver) (y : List ℕ) where
   tested : Bool → Finding
   tested t = with16 (ground? 16 (when t 0))
 
-  bad_heard : F.depth ≤ v.state.heard → Ground 16 0 ≡ early_grounds F v y
+  bad_heard : F.depth ≤ v.state.heard → refused_by 16 0 ≡ early_grounds F v y
   unfolding early_grounds receiver_ground16 tested with16
   bad_heard h =
       sym
@@ -95,7 +92,7 @@ module _ (F : Frame) (v : Receiver) (y : List ℕ) where
       ∙ ap tested (or_false (leb F.phases v.state.phase)))
 
   -- the answers: refused for heard, or as every step
-  pub heard_out : F.depth ≤ v.state.heard → Refused 16 0 ≡ early_answer F v y
+  pub heard_out : F.depth ≤ v.state.heard → refused_by 16 0 ≡ early_answer F v y
   unfolding early_answer
   heard_out h = ap (told (out_count F v.state)) (bad_heard h)
 
@@ -106,16 +103,16 @@ module _ (F : Frame) (v : Receiver) (y : List ℕ) where
       ∙ ap (told (out_count F v.state)) (good_heard h)
 
   -- what an answer tells
-  pub early_count : (n : ℕ) → Count n ≡ early_answer F v y → (Fine ≡ early_grounds F v y) × (n ≡ out_count F v.state)
+  pub early_count : (n : ℕ) → Ok n ≡ early_answer F v y → (Ok tt ≡ early_grounds F v y) × (n ≡ out_count F v.state)
   unfolding early_answer
   early_count n e = told_count_lem (out_count F v.state) n (early_grounds F v y) e
 
-  pub early_refused : (n place : ℕ) → Refused n place ≡ early_answer F v y → Ground n place ≡ early_grounds F v y
+  pub early_refused : (n place : ℕ) → refused_by n place ≡ early_answer F v y → refused_by n place ≡ early_grounds F v y
   unfolding early_answer
   early_refused n place e = told_refused (out_count F v.state) n place (early_grounds F v y) e
 
   -- what they leave
-  module _ (e : Fine ≡ early_grounds F v y) where
+  module _ (e : (Ok tt) ≡ early_grounds F v y) where
     pub early_heard : v.state.heard < F.depth
     early_heard = ⊎_elim (λ l. l.0) (λ l. absurd (no_ground 16 0 _ (bad_heard l.0) e)) (decide v.state.heard F.depth)
 
@@ -129,7 +126,7 @@ module _ (F : Frame) (v : ReceiverState) (a : Arrival) where
   buffered : Bool → Finding
   buffered t = ground? 17 (when t 0) else ground20 F a.profile v.phase a.symbol
 
-  pub bad_buffer : short_buffer F v a.buffer ≡ true → Ground 17 0 ≡ late_grounds F v a
+  pub bad_buffer : short_buffer F v a.buffer ≡ true → refused_by 17 0 ≡ late_grounds F v a
   unfolding late_grounds buffered
   bad_buffer h = sym (ap buffered h)
 
@@ -138,7 +135,7 @@ module _ (F : Frame) (v : ReceiverState) (a : Arrival) where
   good_buffer h o e = ap (ground? 20) e ∙ sym (ap buffered h)
 
   -- what they leave: room for the data cells once enough symbols were heard
-  pub late_room : Fine ≡ late_grounds F v a → F.depth - 1 ≤ v.heard → out_count F v ≤ length a.buffer
+  pub late_room : (Ok tt) ≡ late_grounds F v a → F.depth - 1 ≤ v.heard → out_count F v ≤ length a.buffer
   unfolding late_grounds short_buffer warming
   late_room e h =
       ltb-false (length a.buffer) (out_count F v)
@@ -147,7 +144,7 @@ module _ (F : Frame) (v : ReceiverState) (a : Arrival) where
 -- ---- both
 
 module _ (F : Frame) (v : Receiver) (a : Arrival) where
-  pub in_stages : ground25 F.width a.profile ≡ Fine → (early_grounds F v a.symbol else late_grounds F v.state a) ≡ receive_grounds F v a
+  pub in_stages : ground25 F.width a.profile ≡ Ok tt → (early_grounds F v a.symbol else late_grounds F v.state a) ≡ receive_grounds F v a
   unfolding early_grounds late_grounds receive_grounds ground17 receiver_ground17
   in_stages listed =
       let short = short_store (receiver_places F) v.store || not (eqb (length a.symbol) F.width) in

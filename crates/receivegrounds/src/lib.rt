@@ -2,9 +2,7 @@
 // receivers over cells and over two-byte cells share it. specs/Stages has the grounds by stages, specs/InOrder what is known where none holds.
 #![tactic(auto)]
 
-ghost use Rattle.std.specs.Prelude.{◌≡◌, List, ℕ, ◌≤◌, ◌<◌, length, take};
-ghost use Rattle.rules.specs.declared.CountAnswer.TheVariants.{Count};
-ghost use Rattle.rules.specs.declared.Finding.TheVariants.{Fine};
+ghost use Rattle.std.specs.Prelude.{◌≡◌, List, ℕ, ◌≤◌, ◌<◌, length, take, Ok, Err};
 ghost use Rattle.rules.specs.Device.{phases};
 ghost use Rattle.rules.specs.Fits.{Fits};
 ghost use Rattle.rules.specs.Plan.{plan_of};
@@ -13,19 +11,17 @@ ghost use Rattle.rules.specs.Loads.{ground25};
 ghost use Rattle.rules.specs.Receive.{out_phase, out_count};
 ghost use Rattle.steps.specs.Ready.{Ready};
 ghost use Rattle.steps.specs.Begins.{Begins};
-ghost use Rattle.receivegrounds.specs.declared.Admission.TheVariants.{Admitted};
 ghost use Rattle.receivegrounds.specs.Stages.{late_grounds, early_answer, answered, admission};
 ghost use Rattle.receivegrounds.specs.InOrder.{Prepared};
 
-use counting::Found;
-use rules::{CountAnswer, Device, Finding, ReceiverState, Verdict};
+use rules::{Device, ReceiverState, Refusal};
 
-// The answer to a receive step before it touches what it is lent: refused with number and place, or admitted with the depth, N_I and the
-// number of data cells to hand out.
+// A receive step that no ground refuses, before it touches what it is lent: the depth, N_I, and how many data cells are to be handed out.
 #[derive(Clone, Copy)]
-pub enum Admission {
-    Refused(u32, u32),
-    Admitted(usize, usize, u32),
+pub struct Admitted {
+    pub depth: usize,
+    pub cells: usize,
+    pub count: u32,
 }
 
 // Grounds 16 and 17 of a receive step under an accepted plan, all but that of the data buffer, and, where neither holds, what the step makes
@@ -41,13 +37,16 @@ fn ready(
     width: usize,
     kc: &mut [u16],
     flag: &mut [u8],
-) -> CountAnswer
+) -> Result<u32, Refusal>
     requires { Ready d plan.now (length kc.old) marks.now × (m ≡ (plan_of plan.now).depth) × (length flag.old ≡ length kc.old) }
     ensures answer { (s y : List ℕ) → length s ≡ places → length y ≡ width → result ≡ early_answer (frame_of d (plan_of plan.now)) (record { state = state; store = s }) y }
-    ensures made { (nd : ℕ) → result ≡ Count nd → Prepared (frame_of d (plan_of plan.now)) (out_phase (frame_of d (plan_of plan.now)) state.phase) kc.new flag.new }
+    ensures made { (nd : ℕ) → result ≡ Ok nd → Prepared (frame_of d (plan_of plan.now)) (out_phase (frame_of d (plan_of plan.now)) state.phase) kc.new flag.new }
 {
     if m <= state.heard as usize {
-        return CountAnswer::Refused(16, 0);
+        return Err(Refusal {
+            number: 16,
+            place: 0,
+        });
     }
     let back = receiving::out_phase(state.phase, m);
     let need = places::receiver_places(m, kc.len());
@@ -82,18 +81,28 @@ fn last_grounds(
     width: usize,
     room: usize,
     symbol: &[u16],
-) -> Admission
-    requires { Ready d plan.now n marks.old × (m ≡ (plan_of plan.now).depth) × (nd ≡ out_count (frame_of d (plan_of plan.now)) state) × (ground25 d.subcarriers profile.now ≡ Fine) × (state.phase < phases) × (width ≡ d.subcarriers) × (width ≤ length symbol.now) }
+) -> Result<Admitted, Refusal>
+    requires { Ready d plan.now n marks.old × (m ≡ (plan_of plan.now).depth) × (nd ≡ out_count (frame_of d (plan_of plan.now)) state) × (ground25 d.subcarriers profile.now ≡ Ok tt) × (state.phase < phases) × (width ≡ d.subcarriers) × (width ≤ length symbol.now) }
     ensures { (b : List ℕ) → length b ≡ room → result ≡ answered (frame_of d (plan_of plan.now)) state (late_grounds (frame_of d (plan_of plan.now)) state (record { profile = profile.entry.now; symbol = take width symbol.now; buffer = b })) }
 {
     if receiving::lacks(state.heard, m, nd as usize, room) {
-        return Admission::Refused(17, 0);
+        return Err(Refusal {
+            number: 17,
+            place: 0,
+        });
     }
     let j = state.phase as usize;
-    if let Found::At(k) = arrivals::wrong_cell(d, plan, marks, profile, j, &symbol[..width]) {
-        return Admission::Refused(20, k);
+    if let Some(k) = arrivals::wrong_cell(d, plan, marks, profile, j, &symbol[..width]) {
+        return Err(Refusal {
+            number: 20,
+            place: k,
+        });
     }
-    Admission::Admitted(m, n, nd)
+    Ok(Admitted {
+        depth: m,
+        cells: n,
+        count: nd,
+    })
 }
 
 // The grounds of a receive step, and what it makes of the plan where none holds: the first N_I places of kc are the subcarriers of the cells,
@@ -110,36 +119,28 @@ pub fn admit(
     symbol: &[u16],
     kc: &mut [u16],
     flag: &mut [u8],
-) -> Admission
+) -> Result<Admitted, Refusal>
     requires { Fits d × (d.depth_max ≤ phases) × (width ≡ d.subcarriers → width ≤ length symbol.now) × (d.subcarriers ≤ length kc.old) × (d.subcarriers ≤ length flag.old) }
     ensures answer { (s y b : List ℕ) → length s ≡ places → Begins symbol.now width y → length b ≡ room → result ≡ admission d plan.now (record { state = state; store = s }) (record { profile = profile.entry.now; symbol = y; buffer = b }) }
-    ensures made { (m n nd : ℕ) → result ≡ Admitted m n nd → Prepared (frame_of d (plan_of plan.now)) (out_phase (frame_of d (plan_of plan.now)) state.phase) kc.new flag.new }
+    ensures made { (m n nd : ℕ) → result ≡ Ok (record { depth = m; cells = n; count = nd }) → Prepared (frame_of d (plan_of plan.now)) (out_phase (frame_of d (plan_of plan.now)) state.phase) kc.new flag.new }
 {
     let mut marks = [0u16; 4096];
-    match verdicts::study(d, plan, &mut marks) {
-        Verdict::Refused(g, place) => Admission::Refused(g, place),
-        Verdict::Accepted(n) => {
-            if let Finding::Ground(g, place) = profiles::profile_ground(d, profile) {
-                return Admission::Refused(g, place);
-            }
-            let ni = n as usize;
-            let m = records::number_at(plan, 6);
-            match ready(
-                d,
-                plan,
-                &marks,
-                m,
-                state,
-                places,
-                width,
-                &mut kc[..ni],
-                &mut flag[..ni],
-            ) {
-                CountAnswer::Refused(g, place) => Admission::Refused(g, place),
-                CountAnswer::Count(nd) => last_grounds(
-                    d, plan, &mut marks, m, ni, nd, profile, state, width, room, symbol,
-                ),
-            }
-        }
-    }
+    let n = verdicts::study(d, plan, &mut marks)?;
+    profiles::profile_ground(d, profile)?;
+    let ni = n as usize;
+    let m = records::number_at(plan, 6);
+    let nd = ready(
+        d,
+        plan,
+        &marks,
+        m,
+        state,
+        places,
+        width,
+        &mut kc[..ni],
+        &mut flag[..ni],
+    )?;
+    last_grounds(
+        d, plan, &mut marks, m, ni, nd, profile, state, width, room, symbol,
+    )
 }

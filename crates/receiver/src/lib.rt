@@ -11,8 +11,7 @@ ghost use Rattle.rules.specs.Places.{receiver_delay, places_before, oldest, move
 ghost use Rattle.rules.specs.Receive.{hears, out_phase, received, receive_step};
 ghost use Rattle.receivegrounds.specs.InOrder.{ReceiveInOrder, Prepared, Spots};
 
-use receivegrounds::Admission;
-use rules::{Device, ReceiveAnswer, ReceiverState};
+use rules::{Device, Heard, ReceiverState, Refusal, RefusedStep};
 
 // The arriving cells go into the store in cell order, and x takes the oldest of each cell.
 fn take_in(
@@ -46,7 +45,7 @@ fn hear(
     symbol: &[u16],
     store: &mut [u16],
     buffer: &mut [u16],
-) -> ReceiveAnswer
+) -> Result<Heard<ReceiverState>, RefusedStep<ReceiverState>>
     requires { Fits d × ReceiveInOrder (frame_of d (plan_of plan.now)) (record { state = state; store = store.old }) (record { profile = []; symbol = symbol.now; buffer = buffer.old }) m n nd × Prepared (frame_of d (plan_of plan.now)) (out_phase (frame_of d (plan_of plan.now)) state.phase) kc.now flag.now }
     ensures { hears result store.new buffer.new ≡ received (frame_of d (plan_of plan.now)) (record { state = state; store = store.old }) (record { profile = []; symbol = symbol.now; buffer = buffer.old }) }
 {
@@ -54,10 +53,10 @@ fn hear(
     take_in(d, plan, m, kc, symbol, store, &mut x[..n]);
     let next = receiving::next_state(m, state);
     if receiving::warms(state.heard, m) {
-        return ReceiveAnswer::Warming(next);
+        return Ok(Heard::Warming(next));
     }
     taking::take_data(&x[..n], flag, buffer);
-    ReceiveAnswer::Data(next, nd)
+    Ok(Heard::Data(next, nd))
 }
 
 // A receive step under a load profile: the store takes in the arriving cells, and the data of the input symbol M - 1 steps back is handed
@@ -69,7 +68,7 @@ pub fn receive(
     store: &mut [u16],
     symbol: &[u16],
     buffer: &mut [u16],
-) -> ReceiveAnswer
+) -> Result<Heard<ReceiverState>, RefusedStep<ReceiverState>>
     ensures { hears result store.new buffer.new ≡ receive_step khz50 plan.now profile.now state store.old symbol.now buffer.old }
 {
     let d = rules::khz50_device();
@@ -87,9 +86,9 @@ pub fn receive(
         &mut kc,
         &mut flag,
     ) {
-        Admission::Refused(g, place) => ReceiveAnswer::Refused(g, place, state),
-        Admission::Admitted(m, n, nd) => {
-            hear(d, plan, m, n, nd, state, &kc, &flag, symbol, store, buffer)
-        }
+        Err(refusal) => Err(RefusedStep { refusal, state }),
+        Ok(a) => hear(
+            d, plan, a.depth, a.cells, a.count, state, &kc, &flag, symbol, store, buffer,
+        ),
     }
 }

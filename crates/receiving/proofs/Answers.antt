@@ -5,10 +5,11 @@ use mathlib.Core.List.{List, []}
 use Prim.Native.Nat.{ℕ, ◌+◌, ◌-◌, ◌%◌}
 use lib.Dec.{ltb}
 use lib.Seq.{sets}
+use Rattle.std.specs.Prelude.{Ok}
+use Rattle.rules.specs.declared.Heard.TheVariants.{Warming, Data}
 use Rattle.counting.specs.Search.{pick}
 use Rattle.counting.proofs.Lists.{length_tabulate}
 use Rattle.rules.specs.declared.ReceiverState.{ReceiverState}
-use Rattle.rules.specs.declared.ReceiveAnswer.TheVariants as an-answer
 use Rattle.rules.specs.Frame.{Frame, cells, line_cells}
 use Rattle.rules.specs.Places.{receiver_delay, oldest, moved}
 use Rattle.rules.specs.Receive.{Receiver, Arrival, hears, warming, out_phase, out_count, heard_state, heard_store, handed, received}
@@ -56,11 +57,11 @@ module _ (F : Frame) (v : Receiver) (a : Arrival) where
 
   module _ (st : List ℕ) (r : ReceiverState) (es : st ≡ heard_store F v a.symbol) (er : r ≡ heard_state F v.state) where
     -- while warming: no data is written
-    pub warmed : warming F v.state ≡ true → hears (an-answer.Warming r) st a.buffer ≡ received F v a
+    pub warmed : warming F v.state ≡ true → hears (Ok (Warming r)) st a.buffer ≡ received F v a
     unfolding received
-    warmed w = rw w (λ i. hears (an-answer.Warming (er i)) (es i) a.buffer)
+    warmed w = rw w (λ i. hears (Ok (Warming (er i))) (es i) a.buffer)
 
     -- with data
-    pub data_handed : warming F v.state ≡ false → (n : ℕ) (out : List ℕ) → n ≡ out_count F v.state → out ≡ sets a.buffer 0 (handed F v a.symbol) → hears (an-answer.Data r n) st out ≡ received F v a
+    pub data_handed : warming F v.state ≡ false → (n : ℕ) (out : List ℕ) → n ≡ out_count F v.state → out ≡ sets a.buffer 0 (handed F v a.symbol) → hears (Ok (Data r n)) st out ≡ received F v a
     unfolding received
-    data_handed w n out en eo = rw w (λ i. hears (an-answer.Data (er i) (en i)) (es i) (eo i))
+    data_handed w n out en eo = rw w (λ i. hears (Ok (Data (er i) (en i))) (es i) (eo i))

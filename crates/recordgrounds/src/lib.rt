@@ -104,23 +104,23 @@ fn bad_numbers(d: Device, e: Record) -> bool
     false
 }
 
-// The ground of 2 to 5 that a record has after `np` pilots; 0 is none.
-pub fn record_ground(d: Device, records: usize, np: usize, e: Record) -> u32
+// The ground of 2 to 5 that a record has after `np` pilots, if it has one.
+pub fn record_ground(d: Device, records: usize, np: usize, e: Record) -> Option<u32>
     ensures { found_at result e.index ≡ record_grounds d records np (entry_of e) }
 {
     if bad_form(e) {
-        return 2;
+        return Some(2);
     }
     if bad_next(records, e) {
-        return 3;
+        return Some(3);
     }
     if bad_numbers(d, e) {
-        return 4;
+        return Some(4);
     }
     if e.kind == 3 {
         if PILOTS_MAX <= np {
-            return 5;
+            return Some(5);
         }
     }
-    0
+    None
 }

@@ -10,7 +10,7 @@ use borrow.Author.Tests.{ltb-true, ltb-false, leb-false, eqb-true, eq-eqb, ne_eq
 use Rattle.counting.specs.Search.{bit, when}
 use Rattle.counting.proofs.Bools.{neither}
 use Rattle.rules.specs.declared.Device.{Device}
-use Rattle.rules.specs.declared.Finding.TheVariants.{Fine}
+use Rattle.std.specs.Prelude.{Ok}
 use Rattle.rules.specs.Plan.{Entry, leads, is_plc, is_range, is_pilot}
 use Rattle.rules.specs.Grounds.{◌else◌, ground?, bad_length, bad_form, bad_next, bad_numbers, pilots_max, record_grounds}
 use Rattle.rules.proofs.Findings.{not_fine}
@@ -43,12 +43,12 @@ length_fine s e =
     record { some = ltb-false _ _ t.0; most = ltb-false _ _ t.1; whole = eqb-true _ _ (not-false _ t.2) }
 
 -- a record in which none of grounds 2 to 5 holds
-module _ (d : Device) (r np : ℕ) (e : Entry) (f : record_grounds d r np e ≡ Fine) where
+module _ (d : Device) (r np : ℕ) (e : Entry) (f : record_grounds d r np e ≡ Ok tt) where
   all_fine : (bad_form e ≡ false) × (bad_next r e ≡ false) × (bad_numbers d e ≡ false) × ((is_pilot e && leb pilots_max np) ≡ false)
   unfolding record_grounds
   all_fine = go (bad_form e) (bad_next r e) (bad_numbers d e) (is_pilot e && leb pilots_max np) f
     where
-      go : (a b c t : Bool) → (ground? 2 (when a e.index) else ground? 3 (when b e.index) else ground? 4 (when c e.index) else ground? 5 (when t e.index)) ≡ Fine
+      go : (a b c t : Bool) → (ground? 2 (when a e.index) else ground? 3 (when b e.index) else ground? 4 (when c e.index) else ground? 5 (when t e.index)) ≡ Ok tt
           → (a ≡ false) × (b ≡ false) × (c ≡ false) × (t ≡ false)
       go true b c t g = absurd (not_fine g)
       go false true c t g = absurd (not_fine g)

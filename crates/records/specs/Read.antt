@@ -1,7 +1,6 @@
 -- A record as it is read, beside an entry of the definitions; and the finding of a ground of 2 to 5 in it. Assumes nothing.
-use Rattle.std.specs.Prelude.{ℕ, zero, suc, ◌<◌}
-use Rattle.rules.specs.declared.Finding.{Finding}
-use Rattle.rules.specs.declared.Finding.TheVariants.{Fine, Ground}
+use Rattle.std.specs.Prelude.{ℕ, ◌<◌, Option, Some, None, Ok}
+use Rattle.rules.specs.Refusals.{Finding, refused_by}
 use Rattle.rules.specs.Plan.{Entry}
 use Rattle.records.specs.declared.Record.{Record}
 
@@ -15,7 +14,7 @@ pub record Narrow (e : Entry) : Type 0 where
   pub low : e.low < 65536
   pub high : e.high < 65536
 
--- a ground of 2 to 5 at record i; 0 is none
-abbrev pub found_at : ℕ → ℕ → Finding
-found_at zero i = Fine
-found_at (suc g) i = Ground (suc g) i
+-- a ground of 2 to 5 at record i, if there is one
+abbrev pub found_at : Option ℕ → ℕ → Finding
+found_at None i = Ok tt
+found_at (Some g) i = refused_by g i

@@ -8,7 +8,7 @@
 ghost use Rattle.std.specs.Prelude.{◌<◌};
 
 use console::Standard;
-use rules::{Role, RoleAnswer};
+use rules::{Refusal, Role};
 
 // The kind of a role, in the order of the line.
 fn kind_of_role(role: Role) -> u32
@@ -24,46 +24,45 @@ fn kind_of_role(role: Role) -> u32
 }
 
 // The kind of an answer; 5 is refused.
-fn kind_of(answer: RoleAnswer) -> u32
+fn kind_of(answer: Result<Role, Refusal>) -> u32
     ensures { result < 6 }
 {
     match answer {
-        RoleAnswer::Is(role) => kind_of_role(role),
-        RoleAnswer::Refused(_, _) => 5,
+        Ok(role) => kind_of_role(role),
+        Err(_) => 5,
     }
 }
 
 // The checksum with an answer more: its kind, counted from 1, and of a refusal also number and place.
-fn mixed_answer(sum: u32, kind: u32, answer: RoleAnswer) -> u32
+fn mixed_answer(sum: u32, kind: u32, answer: Result<Role, Refusal>) -> u32
     requires { kind < 6 }
 {
     let next = sums::mixed(sum, kind + 1);
     match answer {
-        RoleAnswer::Is(_) => next,
-        RoleAnswer::Refused(number, place) => sums::mixed(sums::mixed(next, number), place),
+        Ok(_) => next,
+        Err(refusal) => sums::mixed(sums::mixed(next, refusal.number), refusal.place),
     }
 }
 
-// The tally with the answer for subcarrier k more: how many answers of each kind, and last their checksum. The answers are too few for a
+// Counts the answer for subcarrier k in the tally: how many answers of each kind, and last their checksum. The answers are too few for a
 // count to wrap.
-fn asked(mut tally: [u32; 7], plan: &[u8], k: u32, phase: u32) -> [u32; 7] {
+fn ask(tally: &mut [u32; 7], plan: &[u8], k: u32, phase: u32) {
     let answer = judge::role(plan, k, phase);
     let kind = kind_of(answer);
     let at = kind as usize;
     tally[at] = std::num::wrapping_add_u32(tally[at], 1);
     tally[6] = mixed_answer(tally[6], kind, answer);
-    tally
 }
 
 // The tally of a plan at a phase, over all subcarriers and three numbers that are none.
 fn tally_of(plan: &[u8], phase: u32) -> [u32; 7] {
     let mut tally = [0u32; 7];
     for k in 0..4097u32 {
-        let next = asked(tally, plan, k, phase);
-        tally = next;
+        ask(&mut tally, plan, k, phase);
     }
-    let more = asked(tally, plan, 66388, phase);
-    asked(more, plan, 4294967295, phase)
+    ask(&mut tally, plan, 66388, phase);
+    ask(&mut tally, plan, 4294967295, phase);
+    tally
 }
 
 // Reads a plan of this length and prints the line of its roles; false where it could not be read whole or its line was not written.
@@ -97,8 +96,7 @@ fn all_pilots() -> u32 {
     let mut sum: u32 = 0;
     for l in 0..65536u32 {
         let pilots = roles::predefined_pilots(l as u16);
-        let next = sums::mixed_cells(sum, &pilots, 8);
-        sum = next;
+        sum = sums::mixed_cells(sum, &pilots, 8);
     }
     sum
 }

@@ -8,7 +8,6 @@ use native.Mathlib.Numerals.{add-one}
 use native.Mathlib.Omega.{arith}
 use lib.Dec.{leb, eqb}
 use lib.ListN.{length, get_or, take, replicate}
-use lib.Seq.{take_all}
 use borrow.Author.Tests.{le-leb, lt-leb}
 use Rattle.counting.proofs.Bools.{and_false, or_false, or_true, Same, decide_eq}
 use Rattle.rules.specs.declared.Device.{Device}
@@ -99,7 +98,7 @@ module _ (d : Device) (l : ℕ) (fits : Fits d) (low : d.low_plc ≤ l) where
       go (inl (n, few, e)) = subst (Beside d l) (sym e) (under n few)
       go (inr (n, few, e)) = subst (Beside d l) (sym e) (over n few)
 
--- of the first n of a list: none, one more, and all
+-- of the first n of a list: none, and one more
 pub one_none : (xs : List ℕ) (k : ℕ) → one_of k (take 0 xs) ≡ false
 unfolding one_of
 one_none xs k = refl
@@ -112,9 +111,6 @@ one_suc (x ∷ xs) (suc n) k h = ap (λ (b : Bool). eqb k x || b) (one_suc xs n 
 
 pub one_more : (xs : List ℕ) (n k : ℕ) → n < length xs → one_of k (take (n + 1) xs) ≡ (one_of k (take n xs) || eqb k (get_or xs n 0))
 one_more xs n k h = rw (add-one n) (one_suc xs n k h)
-
-pub one_all : (xs : List ℕ) (n k : ℕ) → length xs ≤ n → one_of k (take n xs) ≡ one_of k xs
-one_all xs n k h = ap (one_of k) (take_all n xs h)
 
 -- a number of the list stands somewhere in it
 pub record Place (xs : List ℕ) (k : ℕ) : Type 0 where

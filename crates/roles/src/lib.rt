@@ -63,14 +63,7 @@ pub fn predefined_pilots(l: u16) -> [u16; 8]
 pub fn is_among(pilots: [u16; 8], k: usize) -> bool
     ensures { result ≡ one_of k pilots }
 {
-    let mut n: usize = 0;
-    while n < 8 {
-        if wide(pilots[n]) == k {
-            return true;
-        }
-        n += 1;
-    }
-    false
+    pilots.iter().any(|x| k == wide(*x))
 }
 
 // The role of subcarrier k at phase j, from its mark, the predefined pilots and L.

@@ -6,8 +6,7 @@ use mathlib.Core.List.{List}
 use native.Mathlib.Nat.{mul-le-mul_right, one-mul}
 use native.Mathlib.Decide.{dec_lt, ℕ_discrete}
 use native.Mathlib.Omega.{arith}
-use lib.ListN.{length, get_or, set, length-set}
-use lib.Seq.{get_or-set_same, get_or-set_other}
+use lib.ListN.{length, get_or}
 use borrow.Author.Tests.{lt-ltb, le-ltb}
 use Rattle.counting.specs.Search.{sum}
 use Rattle.figure.specs.Figure.{line_begins}
@@ -21,28 +20,6 @@ from_ahead len J i h = rw (lt-ltb (i + J) len h) refl
 pub from_first : (len J i : ℕ) → len ≤ i + J → rotated_from len J i ≡ i + J - len
 unfolding rotated_from
 from_first len J i h = rw (le-ltb (i + J) len h) refl
-
--- ---- places that take other cells, one after the other
-
-pub replaced_none : (at : ℕ) (f : ℕ → ℕ) (s : List ℕ) → Replaced at 0 f s s
-replaced_none at f s = record {
-  places = refl;
-  put = λ i h. absurd (omega arith);
-  before = λ k h. refl;
-  past = λ k h. refl;
-}
-
--- one place more
-pub replaced_next : (at k : ℕ) (f : ℕ → ℕ) (s t : List ℕ) (v : ℕ) → Replaced at k f s t → at + k < length s → v ≡ f k → Replaced at (k + 1) f s (set t (at + k) v)
-replaced_next at k f s t v go h e = record {
-  places = length-set t (at + k) v ∙ go.places;
-  put = λ i l.
-      by_cases (ℕ_discrete i k)
-      (λ z. rw z (get_or-set_same t (at + k) v 0 (omega (arith, go.places)) ∙ e))
-      (λ z. get_or-set_other t (at + k) (at + i) v 0 (λ g. absurd (omega arith)) ∙ go.put i (omega arith));
-  before = λ i l. get_or-set_other t (at + k) i v 0 (λ g. absurd (omega arith)) ∙ go.before i l;
-  past = λ i l. get_or-set_other t (at + k) i v 0 (λ g. absurd (omega arith)) ∙ go.past i (omega arith);
-}
 
 -- ---- one line
 

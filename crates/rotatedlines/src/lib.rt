@@ -1,5 +1,5 @@
-// Delay lines rotated once a symbol is through (document 02, request 09): in each line the J cells that came in stand first, where the commutator
-// left them, and go to the end, so that the oldest stands first again. A line is rotated by moves of memory.
+// Delay lines rotated once a symbol is through (document 02, request 09): in each line the J cells that came in stand first, where the
+// commutator left them, and go to the end, so that the oldest stands first again. A line is rotated by moves of memory.
 #![tactic(auto)]
 
 ghost use Rattle.std.specs.Prelude.{◌+◌, ◌≤◌, ◌<◌, length, get_or};
@@ -12,11 +12,7 @@ fn copy_cells(from: &[u16], a: usize, to: &mut [u16], b: usize, n: usize)
     requires { (a + n ≤ length from.now) × (b + n ≤ length to.old) }
     ensures { Replaced b n (λ i. get_or from.now (a + i) 0) to.old to.new }
 {
-    let mut k = 0;
-    while k < n {
-        to[b + k] = from[a + k];
-        k += 1;
-    }
+    to[b..b + n].copy_from_slice(&from[a..a + n]);
 }
 
 // The n places from `at` on take the cells that stand j places further on.
@@ -25,11 +21,7 @@ fn shift_down(at: usize, n: usize, j: usize, store: &mut [u16])
     ensures { Replaced at n (λ i. get_or store.old (at + j + i) 0) store.old store.new }
 {
     let from = at + j;
-    let mut k = 0;
-    while k < n {
-        store[at + k] = store[from + k];
-        k += 1;
-    }
+    store.copy_within(from..from + n, at);
 }
 
 // The line of len cells from `at` on is rotated by j places: the j newest cells, which stand first, go to the end. `front` is
@@ -50,13 +42,11 @@ pub fn rotate_lines(m: usize, j: usize, store: &mut [u16])
     ensures { LinesRotated j m store.old store.new }
 {
     let mut front = [0u16; 4096];
-    let mut r = 2;
     let mut begin = j;
     let mut len = j + j;
-    while r < m {
+    for _ in 2..m {
         rotate_line(begin, len, j, &mut front, store);
-        begin = begin + len;
-        len = len + j;
-        r += 1;
+        begin += len;
+        len += j;
     }
 }

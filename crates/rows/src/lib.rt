@@ -29,18 +29,19 @@ fn carry_row(bits: usize, car: &[u16], i: usize, row: usize, first: usize, kc: &
     ensures stored { (l : List ℕ) → kc.old ≡ carried_up_to bits (length kc.old) car.now first l → kc.new ≡ carried_up_to bits (length kc.old) car.now result l }
 {
     let rows = power(bits);
-    let ni = kc.len();
+    // A row has so many cells; the shift divides by the number of rows.
+    let count = (kc.len() + rows - 1 - row) >> bits;
     let mut rank = first;
     let mut cell = row;
-    while cell + 3 * rows < ni {
+    for _ in 0..count / 4 {
         carry_four(car, rank, cell, rows, kc);
-        rank = rank + 4;
-        cell = cell + 4 * rows;
+        rank += 4;
+        cell += 4 * rows;
     }
-    while cell < ni {
+    for _ in 0..count % 4 {
         kc[cell] = car[rank];
-        rank = rank + 1;
-        cell = cell + rows;
+        rank += 1;
+        cell += rows;
     }
     rank
 }
@@ -54,13 +55,8 @@ pub fn cell_carriers(bits: usize, car: &[u16], kc: &mut [u16])
     let rows = power(bits);
     let step = power(table::BITS - bits);
     let mut rank: usize = 0;
-    let mut at: usize = 0;
-    let mut i: usize = 0;
-    while i < rows {
-        let row = table::octet(order[at]);
-        let next = carry_row(bits, car, i, row, rank, kc);
-        rank = next;
-        at = at + step;
-        i = i + 1;
+    for i in 0..rows {
+        let row = table::octet(order[i * step]);
+        rank = carry_row(bits, car, i, row, rank, kc);
     }
 }

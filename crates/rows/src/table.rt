@@ -1,4 +1,5 @@
-// The order in which the rows of cells are read. A function takes the table before its loop: indexed in the loop, it would be built for each row.
+// The order in which the rows of cells are read. A function takes the table before its loop: indexed in the loop, it would be built for
+// each row.
 ghost use Rattle.std.specs.Prelude.{◌≡◌};
 
 // The rows of the table have numbers of so many bits.

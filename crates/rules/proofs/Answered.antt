@@ -4,22 +4,21 @@ use mathlib.Core.Path.{◌≡◌, refl}
 use mathlib.Core.List.{List}
 use native.Mathlib.Omega.{arith}
 use Rattle.rules.specs.declared.Device.{Device}
-use Rattle.rules.specs.declared.Finding.{Finding}
-use Rattle.rules.specs.declared.Finding.TheVariants.{Fine, Ground}
-use Rattle.rules.specs.declared.Verdict.TheVariants.{Accepted, Refused}
+use Rattle.rules.specs.Refusals.{Finding, refused_by}
+use Rattle.std.specs.Prelude.{Ok, Err}
 use Rattle.rules.specs.Plan.{plan_of}
 use Rattle.rules.specs.Roles.{ranked_count}
 use Rattle.rules.specs.Grounds.{answer, grounds1to15, verdict}
 use Rattle.rules.specs.Frame.{frame_of, cells}
 
-pub accepted_is : (f : Finding) (n m : ℕ) → Accepted n ≡ answer f m → (f ≡ Fine) × (n ≡ m)
-accepted_is Fine n m e = (refl, cc)
-accepted_is (Ground g k) n m e = let z : ◌≡◌ {A = ℕ} 0 1 = cc in absurd (omega arith)
+pub accepted_is : (f : Finding) (n m : ℕ) → Ok n ≡ answer f m → (f ≡ Ok tt) × (n ≡ m)
+accepted_is (Ok tt) n m e = (refl, cc)
+accepted_is (Err r) n m e = let z : ◌≡◌ {A = ℕ} 0 1 = cc in absurd (omega arith)
 
-pub refused_is : (f : Finding) (g k m : ℕ) → Refused g k ≡ answer f m → f ≡ Ground g k
-refused_is Fine g k m e = let z : ◌≡◌ {A = ℕ} 0 1 = cc in absurd (omega arith)
-refused_is (Ground a b) g k m e = cc
+pub refused_is : (f : Finding) (g k m : ℕ) → refused_by g k ≡ answer f m → f ≡ refused_by g k
+refused_is (Ok tt) g k m e = let z : ◌≡◌ {A = ℕ} 0 1 = cc in absurd (omega arith)
+refused_is (Err r) g k m e = cc
 
-pub accepted_cells : (d : Device) (s : List ℕ) (n : ℕ) → Accepted n ≡ verdict d s → n ≡ cells (frame_of d (plan_of s))
+pub accepted_cells : (d : Device) (s : List ℕ) (n : ℕ) → Ok n ≡ verdict d s → n ≡ cells (frame_of d (plan_of s))
 unfolding verdict cells frame_of ranked_count
 accepted_cells d s n e = (accepted_is (grounds1to15 d s) n (ranked_count d (plan_of s)) e).1

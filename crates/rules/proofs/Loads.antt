@@ -4,7 +4,6 @@ use mathlib.Core.Path.{◌≡◌, refl, sym}
 use mathlib.Core.Bool.{Bool, true, not}
 use mathlib.Core.List.{List}
 use mathlib.Core.Logic.{by_cases}
-use mathlib.Core.Option.{Option, none}
 use native.Mathlib.Decide.{dec_lt}
 use native.Mathlib.Omega.{arith}
 use lib.Dec.{leb, eqb}
@@ -14,7 +13,8 @@ use borrow.Author.Tests.{lt-leb, eq-eqb, ne_eqb, eqb-true, not-false}
 use Rattle.counting.specs.Search.{when, lowest}
 use Rattle.counting.proofs.Bools.{conflict, and_false}
 use Rattle.counting.proofs.Laws.{lowest_none, none_lowest}
-use Rattle.rules.specs.declared.Finding.TheVariants.{Fine, Ground}
+use Rattle.rules.specs.Refusals.{refused_by}
+use Rattle.std.specs.Prelude.{Ok, Option, None}
 use Rattle.rules.specs.Grounds.{ground?}
 use Rattle.rules.specs.Frame.{top_data}
 use Rattle.rules.specs.Loads.{profile_load, ground25, point_load, load_limit}
@@ -38,7 +38,7 @@ pub record Loaded (n : ℕ) (w : List ℕ) : Type 0 where
   pub listed : (k : ℕ) → k < n → profile_load (get_or w k 0) ≡ true
   pub small : (k : ℕ) → get_or w k 0 ≤ 14
 
-pub loaded : (n : ℕ) (w : List ℕ) → ground25 n w ≡ Fine → Loaded n w
+pub loaded : (n : ℕ) (w : List ℕ) → ground25 n w ≡ Ok tt → Loaded n w
 unfolding ground25
 loaded n w e =
     let f = both_fine (ground? 25 (when (not (eqb (length w) n)) 0)) (ground? 25 (lowest (is_unlisted w) n)) e in
@@ -56,7 +56,7 @@ loaded n w e =
 
 -- ---- ground 25 by its parts
 
-pub ground25_long : (n : ℕ) (w : List ℕ) → (length w ≡ n → ⊥) → ground25 n w ≡ Ground 25 0
+pub ground25_long : (n : ℕ) (w : List ℕ) → (length w ≡ n → ⊥) → ground25 n w ≡ refused_by 25 0
 unfolding ground25
 ground25_long n w h = rw (ne_eqb (length w) n h) refl
 
@@ -106,8 +106,8 @@ fourteens_long n = length-replicate {A = ℕ} n 14
 pub fourteens_at : (n k : ℕ) → k < n → get_or (fourteens n) k 0 ≡ 14
 fourteens_at n k h = get_or-replicate {A = ℕ} n k 14 0 h
 
-pub fourteens_fine : (n : ℕ) → ground25 n (fourteens n) ≡ Fine
+pub fourteens_fine : (n : ℕ) → ground25 n (fourteens n) ≡ Ok tt
 unfolding profile_load
 fourteens_fine n =
-    ground25_place n (fourteens n) none (fourteens_long n)
+    ground25_place n (fourteens n) None (fourteens_long n)
     (sym (none_lowest (is_unlisted (fourteens n)) (length (fourteens n)) (λ k h. rw (fourteens_at n k (omega (arith, fourteens_long n))) refl)))

@@ -1,12 +1,9 @@
 -- What filling a data symbol from a bit stream in bytes, and the way back, answer and leave (document 02, request 07): grounds 1 to 15, 25,
 -- 16, 18, 26, and on the way back 19. The answer is how many bits the symbol takes; what is refused changes nothing. Assumes nothing.
-use Rattle.std.specs.Prelude.{ℕ, ◌*◌, ◌-◌, List, ltb, length}
+use Rattle.std.specs.Prelude.{ℕ, ◌*◌, ◌-◌, List, ltb, length, Ok, Err}
 use Rattle.counting.specs.Search.{when}
 use Rattle.rules.specs.declared.Device.{Device}
-use Rattle.rules.specs.declared.Finding.{Finding}
-use Rattle.rules.specs.declared.Finding.TheVariants.{Fine, Ground}
-use Rattle.rules.specs.declared.CountAnswer.{CountAnswer}
-use Rattle.rules.specs.declared.CountAnswer.TheVariants.{Count, Refused}
+use Rattle.rules.specs.Refusals.{Finding, CountAnswer, refused_by}
 use Rattle.rules.specs.Plan.{plan_of}
 use Rattle.rules.specs.Grounds.{◌else◌, ground?, grounds1to15}
 use Rattle.rules.specs.Frame.{Frame, frame_of}
@@ -43,25 +40,25 @@ module _ (F : Frame) (w : List ℕ) where
   unfoldable pub frame_fill : ℕ → List ℕ → ℕ → List ℕ → Filling
   frame_fill j bytes a room =
       elim (fill_grounds j (length room) (length bytes) a) [
-        | Fine ↦ fills (Count (bit_count j)) (filled_from (data_loads F w j) bytes a)
-        | Ground n place ↦ fills (Refused n place) room
+        | Ok _ ↦ fills (Ok (bit_count j)) (filled_from (data_loads F w j) bytes a)
+        | Err r ↦ fills (Err r) room
       ]
 
   -- the way back: the phase, the data, the start and the lent stream
   unfoldable pub frame_unfill : ℕ → List ℕ → ℕ → List ℕ → Filling
   frame_unfill j ds a bytes =
       elim (unfill_grounds j ds (length bytes) a) [
-        | Fine ↦ fills (Count (bit_count j)) (unfilled_into (data_loads F w j) ds bytes a)
-        | Ground n place ↦ fills (Refused n place) bytes
+        | Ok _ ↦ fills (Ok (bit_count j)) (unfilled_into (data_loads F w j) ds bytes a)
+        | Err r ↦ fills (Err r) bytes
       ]
 
 module _ (d : Device) (s w : List ℕ) where
   -- fill a data symbol, of any bytes as a plan s and as a profile w: the phase, the stream, the start and the lent cells
   unfoldable pub fill_step : ℕ → List ℕ → ℕ → List ℕ → Filling
   fill_step j bytes a room =
-      elim (grounds1to15 d s) [ Fine ↦ frame_fill (frame_of d (plan_of s)) w j bytes a room | Ground n place ↦ fills (Refused n place) room ]
+      elim (grounds1to15 d s) [ Ok _ ↦ frame_fill (frame_of d (plan_of s)) w j bytes a room | Err r ↦ fills (Err r) room ]
 
   -- the way back: the phase, the data, the start and the lent stream
   unfoldable pub unfill_step : ℕ → List ℕ → ℕ → List ℕ → Filling
   unfill_step j ds a bytes =
-      elim (grounds1to15 d s) [ Fine ↦ frame_unfill (frame_of d (plan_of s)) w j ds a bytes | Ground n place ↦ fills (Refused n place) bytes ]
+      elim (grounds1to15 d s) [ Ok _ ↦ frame_unfill (frame_of d (plan_of s)) w j ds a bytes | Err r ↦ fills (Err r) bytes ]

@@ -2,7 +2,7 @@
 -- (document 02, request 07). Assumes nothing.
 use Rattle.std.specs.Prelude.{ℕ, zero, suc, ◌-◌, ◌^◌, Bool, not, ◌&&◌, ◌||◌, List, leb, ltb, eqb, length, get_or}
 use Rattle.counting.specs.Search.{when, lowest, select, tabulate}
-use Rattle.rules.specs.declared.Finding.{Finding}
+use Rattle.rules.specs.Refusals.{Finding}
 use Rattle.rules.specs.Grounds.{◌else◌, ground?}
 use Rattle.rules.specs.Frame.{Frame, cells, spot, is_data, data_count}
 

@@ -1,10 +1,10 @@
 -- The definitions at a small device of 96 subcarriers, as one table: both sides of each limit of grounds 6 to 15, pilots, scattered
 -- subcarriers, ranks and cells. A definition that is changed fails here within a second; the starred cases of the 50 kHz device, crate
 -- starred, take twenty. The numbers are those of the second model (tests/small.py). Proved in proofs/SmallTable.antt. Assumes nothing.
-use Rattle.std.specs.Prelude.{ℕ, suc, ◌≡◌, true, List, [], ◌∷◌, map}
+use Rattle.std.specs.Prelude.{ℕ, suc, ◌≡◌, true, List, [], ◌∷◌, map, Ok}
 use Rattle.counting.specs.Search.{those}
 use Rattle.rules.specs.declared.Device.{Device}
-use Rattle.rules.specs.declared.Verdict.TheVariants.{Accepted, Refused}
+use Rattle.rules.specs.Refusals.{refused_by}
 use Rattle.rules.specs.Plan.{Plan, plan_of}
 use Rattle.rules.specs.Roles.{predefined, scattered, rank_of}
 use Rattle.rules.specs.Grounds.{verdict}
@@ -52,34 +52,34 @@ small_frame = frame_of small small_a
 
 abbrev pub Small : Type 0
 Small =
-    (verdict small (between 7 80 []) ≡ Accepted 60)
+    (verdict small (between 7 80 []) ≡ Ok 60)
     × (predefined small 30 ≡ 21 ∷ 23 ∷ 26 ∷ 28 ∷ 35 ∷ 37 ∷ 40 ∷ 42 ∷ [])
     × (map (λ j. those (scattered small small_a j) 0 96) (0 ∷ 10 ∷ 100 ∷ []) ≡ (34 ∷ []) ∷ (44 ∷ []) ∷ [] ∷ [])
     × (map (rank_of small small_a) (8 ∷ 43 ∷ 79 ∷ []) ≡ 0 ∷ 23 ∷ 59 ∷ [])
     × (map (cell_rank small_frame) (0 ∷ 8 ∷ 16 ∷ 1 ∷ 2 ∷ 4 ∷ 6 ∷ 59 ∷ []) ≡ 0 ∷ 1 ∷ 2 ∷ 30 ∷ 15 ∷ 8 ∷ 23 ∷ 52 ∷ [])
     × (spot small_frame 6 ≡ 43) × (held small_frame 7 6 ≡ true) × (sent_phase small_frame 7 6 ≡ 9)
     -- 6 and 7
-    × (verdict small (between 2 92 []) ≡ Refused 6 3)
-    × (verdict small (between 3 92 []) ≡ Refused 15 0)
-    × (verdict small (between 19 80 []) ≡ Accepted 48)
-    × (verdict small (between 20 80 []) ≡ Refused 7 20)
+    × (verdict small (between 2 92 []) ≡ refused_by 6 3)
+    × (verdict small (between 3 92 []) ≡ refused_by 15 0)
+    × (verdict small (between 19 80 []) ≡ Ok 48)
+    × (verdict small (between 20 80 []) ≡ refused_by 7 20)
     -- 8: in the PLC, predefined, named twice, excluded; and a good one
-    × (verdict small (between 7 80 ((3, 30, 0) ∷ [])) ≡ Refused 8 3)
-    × (verdict small (between 7 80 ((3, 28, 0) ∷ [])) ≡ Refused 8 3)
-    × (verdict small (between 7 80 ((3, 50, 0) ∷ (3, 50, 0) ∷ [])) ≡ Refused 8 4)
-    × (verdict small (between 7 80 ((3, 5, 0) ∷ [])) ≡ Refused 8 3)
-    × (verdict small (between 7 80 ((3, 50, 0) ∷ [])) ≡ Accepted 59)
+    × (verdict small (between 7 80 ((3, 30, 0) ∷ [])) ≡ refused_by 8 3)
+    × (verdict small (between 7 80 ((3, 28, 0) ∷ [])) ≡ refused_by 8 3)
+    × (verdict small (between 7 80 ((3, 50, 0) ∷ (3, 50, 0) ∷ [])) ≡ refused_by 8 4)
+    × (verdict small (between 7 80 ((3, 5, 0) ∷ [])) ≡ refused_by 8 3)
+    × (verdict small (between 7 80 ((3, 50, 0) ∷ [])) ≡ Ok 59)
     -- 9 to 14 at their limits at once: bands of 40 and 10, 12 excluded in a span of 60, two in the band of 40, six apart; then one beyond each
-    × (verdict small (between 14 75 ((2, 55, 64) ∷ (2, 44, 44) ∷ (2, 50, 50) ∷ [])) ≡ Accepted 36)
-    × (verdict small (between 14 74 ((2, 55, 64) ∷ (2, 44, 44) ∷ (2, 50, 50) ∷ [])) ≡ Refused 9 65)
-    × (verdict small (between 15 75 ((2, 55, 64) ∷ (2, 44, 44) ∷ (2, 50, 50) ∷ [])) ≡ Refused 10 0)
-    × (verdict small (between 14 76 ((2, 55, 65) ∷ (2, 44, 44) ∷ (2, 50, 50) ∷ [])) ≡ Refused 11 0)
-    × (verdict small (between 14 55 ((2, 44, 44) ∷ (2, 50, 50) ∷ (2, 53, 53) ∷ [])) ≡ Refused 12 15)
-    × (verdict small (between 7 80 ((2, 50, 50) ∷ (2, 60, 60) ∷ (2, 69, 69) ∷ [])) ≡ Refused 13 50)
-    × (verdict small (between 7 80 ((2, 50, 50) ∷ (2, 60, 60) ∷ (2, 70, 70) ∷ [])) ≡ Accepted 57)
-    × (verdict small (between 7 80 ((2, 60, 60) ∷ (2, 65, 65) ∷ [])) ≡ Refused 14 60)
-    × (verdict small (between 7 80 ((2, 60, 60) ∷ (2, 66, 66) ∷ [])) ≡ Accepted 58)
+    × (verdict small (between 14 75 ((2, 55, 64) ∷ (2, 44, 44) ∷ (2, 50, 50) ∷ [])) ≡ Ok 36)
+    × (verdict small (between 14 74 ((2, 55, 64) ∷ (2, 44, 44) ∷ (2, 50, 50) ∷ [])) ≡ refused_by 9 65)
+    × (verdict small (between 15 75 ((2, 55, 64) ∷ (2, 44, 44) ∷ (2, 50, 50) ∷ [])) ≡ refused_by 10 0)
+    × (verdict small (between 14 76 ((2, 55, 65) ∷ (2, 44, 44) ∷ (2, 50, 50) ∷ [])) ≡ refused_by 11 0)
+    × (verdict small (between 14 55 ((2, 44, 44) ∷ (2, 50, 50) ∷ (2, 53, 53) ∷ [])) ≡ refused_by 12 15)
+    × (verdict small (between 7 80 ((2, 50, 50) ∷ (2, 60, 60) ∷ (2, 69, 69) ∷ [])) ≡ refused_by 13 50)
+    × (verdict small (between 7 80 ((2, 50, 50) ∷ (2, 60, 60) ∷ (2, 70, 70) ∷ [])) ≡ Ok 57)
+    × (verdict small (between 7 80 ((2, 60, 60) ∷ (2, 65, 65) ∷ [])) ≡ refused_by 14 60)
+    × (verdict small (between 7 80 ((2, 60, 60) ∷ (2, 66, 66) ∷ [])) ≡ Ok 58)
     -- 15, and an exclusion band of 5, or none of 4
-    × (verdict small (between 7 81 []) ≡ Refused 15 0)
-    × (verdict small (between 14 75 ((2, 55, 59) ∷ [])) ≡ Accepted 43)
-    × (verdict small (between 14 75 ((2, 55, 58) ∷ [])) ≡ Refused 12 15)
+    × (verdict small (between 7 81 []) ≡ refused_by 15 0)
+    × (verdict small (between 14 75 ((2, 55, 59) ∷ [])) ≡ Ok 43)
+    × (verdict small (between 14 75 ((2, 55, 58) ∷ [])) ≡ refused_by 12 15)

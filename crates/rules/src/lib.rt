@@ -40,19 +40,18 @@ pub struct Device {
     pub row_bits: usize,
 }
 
-// What a look for grounds finds: nothing, or the number and place of one.
+// A refusal: the number of the first ground that holds, and its place.
 #[derive(Clone, Copy)]
-pub enum Finding {
-    Fine,
-    Ground(u32, u32),
+pub struct Refusal {
+    pub number: u32,
+    pub place: u32,
 }
 
-// The answer of the judge: accepted with N_I, or refused with number and place.
-#[derive(Clone, Copy)]
-pub enum Verdict {
-    Accepted(u32),
-    Refused(u32, u32),
-}
+// What a look for grounds finds: nothing, or the number and place of one.
+pub type Finding = Result<(), Refusal>;
+
+// The answer of the judge: accepted with N_I, or refused.
+pub type Verdict = Result<u32, Refusal>;
 
 #[derive(Clone, Copy)]
 pub enum Role {
@@ -63,16 +62,9 @@ pub enum Role {
     Data,
 }
 
-// The answer to what a subcarrier is at a phase: its role, or refused with number and place.
+// What a subcarrier is doing at a phase, and why.
 #[derive(Clone, Copy)]
-pub enum RoleAnswer {
-    Is(Role),
-    Refused(u32, u32),
-}
-
-// The answer to what a subcarrier is doing at a phase, and why: its role with the reason, or refused with number and place.
-#[derive(Clone, Copy)]
-pub enum WhyAnswer {
+pub enum Reason {
     // excluded, by this record, the first such on the chain
     ExcludedBy(u32),
     // PLC, by this record, which is record 0
@@ -87,34 +79,12 @@ pub enum WhyAnswer {
     ScatteredOnly(u32),
     // data, at every phase but this one, at which a scattered pilot stands there
     DataBut(u32),
-    Refused(u32, u32),
-}
-
-// The answer to how many: a count, or refused with number and place.
-#[derive(Clone, Copy)]
-pub enum CountAnswer {
-    Count(u32),
-    Refused(u32, u32),
 }
 
 // The state of an emitter: the phase of its next step.
 #[derive(Clone, Copy)]
 pub struct EmitterState {
     pub phase: u32,
-}
-
-// The answer of a fresh start: the state, or refused with number and place.
-#[derive(Clone, Copy)]
-pub enum StartAnswer {
-    Started(EmitterState),
-    Refused(u32, u32),
-}
-
-// The answer of an emit or flush step: sent with the next state, or refused with number, place and the state as it was given.
-#[derive(Clone, Copy)]
-pub enum SendAnswer {
-    Sent(EmitterState),
-    Refused(u32, u32, EmitterState),
 }
 
 // The state of a receiver: the phase of its next step, and how many symbols it has heard, up to M - 1.
@@ -124,20 +94,18 @@ pub struct ReceiverState {
     pub heard: u32,
 }
 
-// The answer of a receiver's fresh start: the state, or refused with number and place.
+// A refused step: the refusal, and the state as it was given.
 #[derive(Clone, Copy)]
-pub enum ListenAnswer {
-    Started(ReceiverState),
-    Refused(u32, u32),
+pub struct RefusedStep<S> {
+    pub refusal: Refusal,
+    pub state: S,
 }
 
-// The answer of a receive step: warming with the next state, data with the next state and the count, or refused with number, place
-// and the state as it was given.
+// What a receive step that no ground refuses hands out: nothing while it warms, and then so many data cells; with the next state.
 #[derive(Clone, Copy)]
-pub enum ReceiveAnswer {
-    Warming(ReceiverState),
-    Data(ReceiverState, u32),
-    Refused(u32, u32, ReceiverState),
+pub enum Heard<S> {
+    Warming(S),
+    Data(S, u32),
 }
 
 // The 50 kHz device.

@@ -6,8 +6,7 @@ use mathlib.Core.List.{List}
 use native.Mathlib.Omega.{arith}
 use lib.ListN.{length}
 use Rattle.rules.specs.declared.Device.{Device}
-use Rattle.rules.specs.declared.Finding.TheVariants.{Fine}
-use Rattle.rules.specs.declared.Verdict.TheVariants.{Accepted}
+use Rattle.std.specs.Prelude.{Ok}
 use Rattle.rules.specs.Device.{khz50, phases}
 use Rattle.rules.specs.Plan.{Plan, plan_of}
 use Rattle.rules.specs.Grounds.{grounds1to15, verdict}
@@ -87,7 +86,7 @@ module _ (d : Device) (p : Plan) (ok : Sound (frame_of d p)) (some : (j : ℕ) �
       }
 
 -- a roomy device: every plan that no ground refuses
-module _ (d : Device) (s : List ℕ) (roomy : Roomy d) (fine : grounds1to15 d s ≡ Fine) where
+module _ (d : Device) (s : List ℕ) (roomy : Roomy d) (fine : grounds1to15 d s ≡ Ok tt) where
   pub roomy_demand3 : Demand3 (frame_of d (plan_of s)) (cell_entries d s)
   roomy_demand3 = subst (Demand3 (frame_of d (plan_of s))) (sym (frame_entries_lem d s fine)) (frame_demand3 d (plan_of s) (sound d s roomy.depth fine) (some_data d s roomy fine))
 
@@ -97,7 +96,7 @@ module _ (d : Device) (s : List ℕ) (roomy : Roomy d) (fine : grounds1to15 d s 
       (frame_claims d (plan_of s) (sound d s roomy.depth fine) (some_data d s roomy fine) (counted d s roomy.depth fine))
 
 -- every plan that the 50 kHz device accepts
-module _ (s : List ℕ) (n : ℕ) (e : verdict khz50 s ≡ Accepted n) where
+module _ (s : List ℕ) (n : ℕ) (e : verdict khz50 s ≡ Ok n) where
   pub accepted_demand3 : Demand3 (frame_of khz50 (plan_of s)) (cell_entries khz50 s)
   accepted_demand3 = roomy_demand3 khz50 s khz50_roomy (no_ground khz50 s n (sym e))
 

@@ -10,7 +10,7 @@ use lib.ListN.{length, get_or, replicate, length-replicate, get_or-replicate, le
 use lib.Seq.{length-sets, ext_get_or, get_or-append-add}
 use Rattle.counting.specs.Search.{tabulate}
 use Rattle.counting.proofs.Lists.{length_tabulate, get_d_tabulate, get_or-sets_0, get_or-map_in}
-use Rattle.rules.specs.declared.Finding.TheVariants.{Fine}
+use Rattle.std.specs.Prelude.{Ok}
 use Rattle.rules.specs.Frame.{Frame, cells, delay, next_phase, phase_back, Given, flush, symbol, input_cells, line_symbol}
 use Rattle.rules.specs.Places.{joined, places_before}
 use Rattle.rules.specs.Store.{emitter_places, fresh_places, fresh_store}
@@ -88,7 +88,7 @@ within_cons F limit j g gs hj h hs (suc i) l = subst (λ (x : ℕ). Within F lim
 abbrev pub Limited : Frame → (ℕ → ℕ) → List Send → Type 0
 Limited F limit [] = Unit {0}
 Limited F limit (a ∷ rest) =
-    ((j : ℕ) → profile_ground F a.profile a.given ≡ Fine → given_grounds F a.profile j a.given ≡ Fine → Within F limit j a.given) × Limited F limit rest
+    ((j : ℕ) → profile_ground F a.profile a.given ≡ Ok tt → given_grounds F a.profile j a.given ≡ Ok tt → Within F limit j a.given) × Limited F limit rest
 
 -- of all steps: 16383
 pub limited_top : (F : Frame) (steps : List Send) → Limited F top steps
@@ -96,9 +96,9 @@ limited_top F [] = tt
 limited_top F (a ∷ rest) = (λ j p g. within_top F a.profile j a.given p (given_within F a.profile j a.given g), limited_top F rest)
 
 -- of steps under one profile: the limits of its loads
-profile_within : (F : Frame) (w u : List ℕ) (j : ℕ) (g : Given) → ((ds : List ℕ) → g ≡ symbol ds → u ≡ w) → given_grounds F u j g ≡ Fine → Within F (limit_at w) j g
+profile_within : (F : Frame) (w u : List ℕ) (j : ℕ) (g : Given) → ((ds : List ℕ) → g ≡ symbol ds → u ≡ w) → given_grounds F u j g ≡ Ok tt → Within F (limit_at w) j g
 profile_within F w u j flush is h = tt
-profile_within F w u j (symbol ds) is h = given_within F w j (symbol ds) (subst (λ (x : List ℕ). given_grounds F x j (symbol ds) ≡ Fine) (is ds refl) h)
+profile_within F w u j (symbol ds) is h = given_within F w j (symbol ds) (subst (λ (x : List ℕ). given_grounds F x j (symbol ds) ≡ Ok tt) (is ds refl) h)
 
 pub limited_under : (F : Frame) (w : List ℕ) (steps : List Send) → UnderProfile w steps → Limited F (limit_at w) steps
 limited_under F w [] u = tt

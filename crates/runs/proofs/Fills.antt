@@ -9,9 +9,8 @@ use lib.ListN.{length, get_or}
 use borrow.Author.Tests.{lt-leb, leb-false, le-ltb, ltb-false, eq-eqb, eqb-true, not-false}
 use Rattle.counting.specs.Search.{when}
 use Rattle.counting.proofs.Laws.{none_lowest}
-use Rattle.rules.specs.declared.CountAnswer.TheVariants.{Count, Refused}
-use Rattle.rules.specs.declared.Finding.{Finding}
-use Rattle.rules.specs.declared.Finding.TheVariants.{Fine, Ground}
+use Rattle.rules.specs.Refusals.{CountAnswer, Finding, refused_by}
+use Rattle.std.specs.Prelude.{Ok, Err}
 use Rattle.rules.specs.Grounds.{◌else◌, ground?}
 use Rattle.rules.specs.Frame.{Frame, data_count}
 use Rattle.rules.specs.Bits.{filled_from, unfilled_into}
@@ -29,7 +28,7 @@ use Rattle.runs.proofs.Steps.{frame_entries}
 module _ (F : Frame) (w : List ℕ) where
   module _ (j m n a : ℕ) where
     -- no ground of filling m cells at phase j from n bytes, starting at bit a
-    pub fill_fine : ground25 F.width w ≡ Fine → j < F.phases → m ≡ data_count F j → bit_count F w j ≤ n * 8 - a → fill_grounds F w j m n a ≡ Fine
+    pub fill_fine : ground25 F.width w ≡ Ok tt → j < F.phases → m ≡ data_count F j → bit_count F w j ≤ n * 8 - a → fill_grounds F w j m n a ≡ Ok tt
     unfolding fill_grounds ground16 ground18 ground26
     fill_fine listed hj hm hn = λ i.
         listed i
@@ -38,7 +37,7 @@ module _ (F : Frame) (w : List ℕ) where
         else ground? 26 (when (le-ltb (n * 8 - a) (bit_count F w j) hn i) 0)
 
     -- and what it says of them
-    pub fill_passed : fill_grounds F w j m n a ≡ Fine → (j < F.phases) × (m ≡ data_count F j) × (bit_count F w j ≤ n * 8 - a)
+    pub fill_passed : fill_grounds F w j m n a ≡ Ok tt → (j < F.phases) × (m ≡ data_count F j) × (bit_count F w j ≤ n * 8 - a)
     unfolding fill_grounds ground16 ground18 ground26
     fill_passed e =
         let f = (both_fine (ground25 F.width w) (ground16 F j else ground18 F j m else ground26 F w j n a) e).1 in
@@ -51,24 +50,24 @@ module _ (F : Frame) (w : List ℕ) where
 
   module _ (j : ℕ) (stream : List ℕ) (a : ℕ) (room : List ℕ) where
     fill_by : Finding → Filling
-    fill_by f = elim f [ Fine ↦ fills (Count (bit_count F w j)) (filled_from (data_loads F w j) stream a) | Ground n place ↦ fills (Refused n place) room ]
+    fill_by f = elim f [ Ok _ ↦ fills (Ok (bit_count F w j)) (filled_from (data_loads F w j) stream a) | Err r ↦ fills (Err r) room ]
 
     -- filling that is not refused says how many bits it takes
-    pub fills_count : fill_grounds F w j (length room) (length stream) a ≡ Fine → (frame_fill F w j stream a room).answer ≡ Count (bit_count F w j)
+    pub fills_count : fill_grounds F w j (length room) (length stream) a ≡ Ok tt → (frame_fill F w j stream a room).answer ≡ Ok (bit_count F w j)
     unfolding frame_fill fill_by
     fills_count e = ap (λ (f : Finding). (fill_by f).answer) e
 
     -- filling that said so
-    module _ (n : ℕ) (left : List ℕ) (e : frame_fill F w j stream a room ≡ fills (Count n) left) where
-      told : (f : Finding) → fill_by f ≡ fills (Count n) left → (f ≡ Fine) × (n ≡ bit_count F w j) × (left ≡ filled_from (data_loads F w j) stream a)
+    module _ (n : ℕ) (left : List ℕ) (e : frame_fill F w j stream a room ≡ fills (Ok n) left) where
+      told : (f : Finding) → fill_by f ≡ fills (Ok n) left → (f ≡ Ok tt) × (n ≡ bit_count F w j) × (left ≡ filled_from (data_loads F w j) stream a)
       unfolding fill_by
-      told Fine q = (refl, ap (λ (r : Filling). bits_taken r.answer) (sym q), ap (λ (r : Filling). r.left) (sym q))
-      told (Ground g place) q =
-          let other : Refused g place ≡ Count n = ap (λ (r : Filling). r.answer) q in
+      told (Ok tt) q = (refl, ap (λ (r : Filling). bits_taken r.answer) (sym q), ap (λ (r : Filling). r.left) (sym q))
+      told (Err r) q =
+          let other : ◌≡◌ {A = CountAnswer} (Err r) (Ok n) = ap (λ (x : Filling). x.answer) q in
           let z : ◌≡◌ {A = ℕ} 0 1 = cc in
           absurd (omega arith)
 
-      pub fill_told_lem : (fill_grounds F w j (length room) (length stream) a ≡ Fine) × (n ≡ bit_count F w j) × (left ≡ filled_from (data_loads F w j) stream a)
+      pub fill_told_lem : (fill_grounds F w j (length room) (length stream) a ≡ Ok tt) × (n ≡ bit_count F w j) × (left ≡ filled_from (data_loads F w j) stream a)
       unfolding frame_fill fill_by
       fill_told_lem = told (fill_grounds F w j (length room) (length stream) a) e
 
@@ -81,7 +80,7 @@ module _ (F : Frame) (w : List ℕ) where
       below_limit (get_or (data_loads F w j) c 0) _ (filled_below (data_loads F w j) stream a c (rw (length_loads F w j) h))
 
   -- 19 finds none among them
-  pub filled_19 : (j : ℕ) (stream : List ℕ) (a : ℕ) → ground19 F w j (filled_from (data_loads F w j) stream a) ≡ Fine
+  pub filled_19 : (j : ℕ) (stream : List ℕ) (a : ℕ) → ground19 F w j (filled_from (data_loads F w j) stream a) ≡ Ok tt
   unfolding ground19
   filled_19 j stream a =
       let ds : List ℕ = filled_from (data_loads F w j) stream a in
@@ -90,7 +89,7 @@ module _ (F : Frame) (w : List ℕ) where
       (λ c h. le-ltb _ (get_or ds c 0) (filled_small j stream a c (omega (arith, filled_length j stream a)))))
 
   -- an emit step may be given them
-  pub filled_input : (j : ℕ) (stream : List ℕ) (a n : ℕ) (room left : List ℕ) → frame_fill F w j stream a room ≡ fills (Count n) left → InputAt F (frame_entries F) w j left
+  pub filled_input : (j : ℕ) (stream : List ℕ) (a n : ℕ) (room left : List ℕ) → frame_fill F w j stream a room ≡ fills (Ok n) left → InputAt F (frame_entries F) w j left
   filled_input j stream a n room left e =
       let is : left ≡ filled_from (data_loads F w j) stream a = (fill_told_lem j stream a room n left e).2 in
       rw is (record { whole = refl; many = filled_length j stream a; small = λ c h. filled_small j stream a c (omega (arith, filled_length j stream a)) })
@@ -99,12 +98,12 @@ module _ (F : Frame) (w : List ℕ) where
 
   module _ (j : ℕ) (ds : List ℕ) (a : ℕ) (stream : List ℕ) where
     unfill_by : Finding → Filling
-    unfill_by f = elim f [ Fine ↦ fills (Count (bit_count F w j)) (unfilled_into (data_loads F w j) ds stream a) | Ground n place ↦ fills (Refused n place) stream ]
+    unfill_by f = elim f [ Ok _ ↦ fills (Ok (bit_count F w j)) (unfilled_into (data_loads F w j) ds stream a) | Err r ↦ fills (Err r) stream ]
 
-    pub unfill_accepted : unfill_grounds F w j ds (length stream) a ≡ Fine → frame_unfill F w j ds a stream ≡ fills (Count (bit_count F w j)) (unfilled_into (data_loads F w j) ds stream a)
+    pub unfill_accepted : unfill_grounds F w j ds (length stream) a ≡ Ok tt → frame_unfill F w j ds a stream ≡ fills (Ok (bit_count F w j)) (unfilled_into (data_loads F w j) ds stream a)
     unfolding frame_unfill unfill_by
     unfill_accepted e = ap unfill_by e
 
-    pub unfill_refused : (n place : ℕ) → unfill_grounds F w j ds (length stream) a ≡ Ground n place → frame_unfill F w j ds a stream ≡ fills (Refused n place) stream
+    pub unfill_refused : (n place : ℕ) → unfill_grounds F w j ds (length stream) a ≡ refused_by n place → frame_unfill F w j ds a stream ≡ fills (refused_by n place) stream
     unfolding frame_unfill unfill_by
     unfill_refused n place e = ap unfill_by e

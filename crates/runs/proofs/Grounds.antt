@@ -11,8 +11,8 @@ use lib.Seq.{length-sets}
 use borrow.Author.Tests.{lt-leb, le-ltb, ltb-true, ltb-false}
 use Rattle.counting.specs.Search.{when}
 use Rattle.counting.proofs.Bools.{by_test}
-use Rattle.rules.specs.declared.Finding.{Finding}
-use Rattle.rules.specs.declared.Finding.TheVariants.{Fine}
+use Rattle.rules.specs.Refusals.{Finding}
+use Rattle.std.specs.Prelude.{Ok, is_ok}
 use Rattle.rules.specs.declared.ReceiverState.{ReceiverState}
 use Rattle.rules.specs.Grounds.{◌else◌, ground?}
 use Rattle.rules.specs.Frame.{Frame, delay, input_cells, line_cells}
@@ -23,7 +23,7 @@ use Rattle.rules.specs.Steps.{Emitter, Send, Sending, ground16, short_store, gro
 use Rattle.rules.specs.Receive.{Receiver, Arrival, Receiving, warming, short_buffer, receiver_ground16, receiver_ground17, ground20, receive_grounds, heard_state, heard_store, frame_receive}
 use Rattle.frame.specs.Counted.{phase_of}
 use Rattle.frame.proofs.Cells.{Sound}
-use Rattle.runs.specs.Run.{is_sent, emitter_left, sendings, sent, emitter_after, is_received, receiver_left, receivings, heard, receiver_after}
+use Rattle.runs.specs.Run.{emitter_left, sendings, sent, emitter_after, receiver_left, receivings, heard, receiver_after}
 use Rattle.runs.proofs.Steps as sending
 use Rattle.runs.proofs.Steps.{frame_entries, next, sent_fine, left_sent, fresh_emitter, FreshIn}
 use Rattle.runs.proofs.Hears as receiving
@@ -48,7 +48,7 @@ module _ (F : Frame) (j : ℕ) (hj : j < F.phases) where
   unfolding fresh_emitter fresh_store
   carries_fresh lent fits = numbered_fresh F (emitter_places F) j _ hj (rw length-sets fits)
 
-  carries_on : (n : ℕ) (e : Emitter) (a : Send) → send_grounds F e a ≡ Fine → Carries F j n e → Carries F j (suc n) (emitter_left (frame_step F e a))
+  carries_on : (n : ℕ) (e : Emitter) (a : Send) → send_grounds F e a ≡ Ok tt → Carries F j n e → Carries F j (suc n) (emitter_left (frame_step F e a))
   unfolding next next_state sent_store
   carries_on n e a h t =
       subst (Carries F j (suc n)) (sym (left_sent F e a h))
@@ -67,7 +67,7 @@ module _ (F : Frame) (j : ℕ) (hj : j < F.phases) where
   emitter_steps : NumberedSteps Emitter Send Sending
   emitter_steps = record {
     step = frame_step F;
-    ok = λ r. is_sent r.answer;
+    ok = λ r. is_ok r.answer;
     left = emitter_left;
     found = send_grounds F;
     After = Carries F j;
@@ -112,7 +112,7 @@ module _ (F : Frame) (pos : 0 < F.depth) (j : ℕ) (hj : j < F.phases) where
   unfolding fresh_receiver filler_store
   tracks_fresh lent fits = record { numbered = numbered_fresh F (receiver_places F) j _ hj (rw length-sets fits); heard = omega arith }
 
-  tracks_on : (n : ℕ) (v : Receiver) (a : Arrival) → receive_grounds F v a ≡ Fine → Tracks F j n v → Tracks F j (suc n) (receiver_left (frame_receive F v a))
+  tracks_on : (n : ℕ) (v : Receiver) (a : Arrival) → receive_grounds F v a ≡ Ok tt → Tracks F j n v → Tracks F j (suc n) (receiver_left (frame_receive F v a))
   unfolding next_heard heard_state heard_store warming
   tracks_on n v a h t =
       rw (left_fine F v a h)
@@ -140,7 +140,7 @@ module _ (F : Frame) (pos : 0 < F.depth) (j : ℕ) (hj : j < F.phases) where
   receiver_steps : NumberedSteps Receiver Arrival Receiving
   receiver_steps = record {
     step = frame_receive F;
-    ok = λ r. is_received r.answer;
+    ok = λ r. is_ok r.answer;
     left = receiver_left;
     found = receive_grounds F;
     After = Tracks F j;

@@ -9,10 +9,9 @@ use borrow.Author.Tests.{ltb-false}
 use Rattle.counting.specs.Search.{pick}
 use Rattle.counting.proofs.Bools.{neither, by_test}
 use Rattle.counting.proofs.Lists.{take-sets}
-use Rattle.rules.specs.declared.Finding.{Finding}
-use Rattle.rules.specs.declared.Finding.TheVariants.{Fine, Ground}
+use Rattle.rules.specs.Refusals.{refusal, Finding, refused_by}
+use Rattle.std.specs.Prelude.{Ok, Err, is_ok}
 use Rattle.rules.specs.declared.ReceiverState.{ReceiverState}
-use Rattle.rules.specs.declared.ListenAnswer.TheVariants as a-start
 use Rattle.rules.specs.Frame.{Frame}
 use Rattle.rules.specs.Store.{receiver_places, filler_store}
 use Rattle.rules.specs.Steps.{short_store}
@@ -21,7 +20,7 @@ use Rattle.rules.specs.Receive.{Receiver, Arrival, Receiving, Listening, listens
 use Rattle.rules.proofs.Findings.{both_fine, when_fine}
 use Rattle.rules.specs.Loads.{ground25}
 use Rattle.frame.proofs.Cells.{length_data}
-use Rattle.runs.specs.Run.{accepted_steps, is_received, receiver_left, Outcome, warming, handed, outcome_of, receivings, heard, outcomes, is_listening, FreshReceiver}
+use Rattle.runs.specs.Run.{accepted_steps, receiver_left, Outcome, warming, handed, outcome_of, receivings, heard, outcomes, FreshReceiver}
 use Rattle.runs.proofs.Steps.{frame_entries, not_refused}
 
 -- ---- one step
@@ -36,59 +35,59 @@ outcome_with F v xs = pick (receive.warming F v) warming (handed (out_count F v)
 
 module _ (F : Frame) (v : Receiver) (a : Arrival) where
   after : Finding → Receiving
-  after f = elim f [ Fine ↦ received F v a | Ground n place ↦ turned_away v a n place ]
+  after f = elim f [ Ok _ ↦ received F v a | Err r ↦ turned_away v a r ]
 
-  step_fine : receive_grounds F v a ≡ Fine → frame_receive F v a ≡ received F v a
+  step_fine : receive_grounds F v a ≡ Ok tt → frame_receive F v a ≡ received F v a
   unfolding frame_receive after
   step_fine h = ap after h
 
-  step_ground : (n place : ℕ) → receive_grounds F v a ≡ Ground n place → frame_receive F v a ≡ turned_away v a n place
+  step_ground : (n place : ℕ) → receive_grounds F v a ≡ refused_by n place → frame_receive F v a ≡ turned_away v a (refusal n place)
   unfolding frame_receive after
   step_ground n place h = ap after h
 
   -- a step that no ground refuses is accepted
-  pub fine_received : receive_grounds F v a ≡ Fine → is_received (frame_receive F v a).answer ≡ true
+  pub fine_received : receive_grounds F v a ≡ Ok tt → is_ok (frame_receive F v a).answer ≡ true
   unfolding received
   fine_received h =
-      ap (λ (r : Receiving). is_received r.answer) (step_fine h)
+      ap (λ (r : Receiving). is_ok r.answer) (step_fine h)
       ∙ by_test (receive.warming F v.state) (λ q. rw q refl) (λ q. rw q refl)
 
   -- unless it is warming, its data buffer is long enough
-  buffer_fits : receive_grounds F v a ≡ Fine → receive.warming F v.state ≡ false → out_count F v.state ≤ length a.buffer
+  buffer_fits : receive_grounds F v a ≡ Ok tt → receive.warming F v.state ≡ false → out_count F v.state ≤ length a.buffer
   unfolding receive_grounds receiver_ground17 short_buffer
   buffer_fits h q =
       let rest = (both_fine (receiver_ground16 F v.state) _ (both_fine (ground25 F.width a.profile) _ h).1).1 in
       let short = when_fine 17 0 _ (both_fine _ (ground20 F a.profile v.state.phase a.symbol) rest).0 in
       ltb-false _ _ (sym (ap (λ (b : Bool). not b && ltb (length a.buffer) (out_count F v.state)) q) ∙ (neither (short_store (receiver_places F) v.store || not (eqb (length a.symbol) F.width)) _ short).1)
 
-  outcome_handed : receive_grounds F v a ≡ Fine → outcome_of (received F v a).answer (received F v a).buffer ≡ outcome_with F v.state (receive.handed F v a.symbol)
+  outcome_handed : receive_grounds F v a ≡ Ok tt → outcome_of (received F v a).answer (received F v a).buffer ≡ outcome_with F v.state (receive.handed F v a.symbol)
   unfolding received outcome_with receive.handed
   outcome_handed h =
       by_test (receive.warming F v.state) (λ q. rw q refl)
       (λ q. rw q (ap (handed (out_count F v.state)) (take-sets a.buffer (receive.handed F v a.symbol) (out_count F v.state) (length_data F _ _) (buffer_fits h q))))
 
-  pub left_fine : receive_grounds F v a ≡ Fine → receiver_left (frame_receive F v a) ≡ next_heard F v a.symbol
+  pub left_fine : receive_grounds F v a ≡ Ok tt → receiver_left (frame_receive F v a) ≡ next_heard F v a.symbol
   unfolding received next_heard
   left_fine h = ap receiver_left (step_fine h) ∙ by_test (receive.warming F v.state) (λ q. rw q refl) (λ q. rw q refl)
 
-  pub away : (n place : ℕ) → receive_grounds F v a ≡ Ground n place → (is_received (frame_receive F v a).answer ≡ false) × (receiver_left (frame_receive F v a) ≡ v)
-  away n place h = (ap (λ (r : Receiving). is_received r.answer) (step_ground n place h), ap receiver_left (step_ground n place h))
+  pub away : (n place : ℕ) → receive_grounds F v a ≡ refused_by n place → (is_ok (frame_receive F v a).answer ≡ false) × (receiver_left (frame_receive F v a) ≡ v)
+  away n place h = (ap (λ (r : Receiving). is_ok r.answer) (step_ground n place h), ap receiver_left (step_ground n place h))
 
   module _ (rest : List Arrival) where
-    pub heard_fine : receive_grounds F v a ≡ Fine → heard (frame_entries F) v (a ∷ rest) ≡ a.symbol ∷ heard (frame_entries F) (next_heard F v a.symbol) rest
+    pub heard_fine : receive_grounds F v a ≡ Ok tt → heard (frame_entries F) v (a ∷ rest) ≡ a.symbol ∷ heard (frame_entries F) (next_heard F v a.symbol) rest
     unfolding heard accepted_steps received next_heard
     heard_fine h = by_test (receive.warming F v.state) (λ q. rw (step_fine h, q) refl) (λ q. rw (step_fine h, q) refl)
 
-    pub heard_ground : (n place : ℕ) → receive_grounds F v a ≡ Ground n place → heard (frame_entries F) v (a ∷ rest) ≡ heard (frame_entries F) v rest
+    pub heard_ground : (n place : ℕ) → receive_grounds F v a ≡ refused_by n place → heard (frame_entries F) v (a ∷ rest) ≡ heard (frame_entries F) v rest
     unfolding heard accepted_steps
     heard_ground n place h = rw (step_ground n place h) refl
 
-    pub outcome_fine : receive_grounds F v a ≡ Fine
+    pub outcome_fine : receive_grounds F v a ≡ Ok tt
         → outcomes (frame_entries F) v (a ∷ rest) ≡ outcome_with F v.state (receive.handed F v a.symbol) ∷ outcomes (frame_entries F) (next_heard F v a.symbol) rest
     unfolding outcomes accepted_steps received next_heard
     outcome_fine h = rw (← outcome_handed h) (by_test (receive.warming F v.state) (λ q. rw (step_fine h, q) refl) (λ q. rw (step_fine h, q) refl))
 
-    pub outcome_ground : (n place : ℕ) → receive_grounds F v a ≡ Ground n place → outcomes (frame_entries F) v (a ∷ rest) ≡ outcomes (frame_entries F) v rest
+    pub outcome_ground : (n place : ℕ) → receive_grounds F v a ≡ refused_by n place → outcomes (frame_entries F) v (a ∷ rest) ≡ outcomes (frame_entries F) v rest
     unfolding outcomes accepted_steps
     outcome_ground n place h = rw (step_ground n place h) refl
 
@@ -112,13 +111,13 @@ pub record ListensIn (F : Frame) (j : ℕ) (v : Receiver) : Type 0 where
 
 -- the receiver that an answer and a store make, u where the answer refuses
 receiver_in : Receiver → Listening → Receiver
-receiver_in u x = elim x.answer [ a-start.Started e ↦ record { state = e; store = x.store } | a-start.Refused n place ↦ u ]
+receiver_in u x = elim x.answer [ Ok e ↦ record { state = e; store = x.store } | Err _ ↦ u ]
 
-started : (F : Frame) (j : ℕ) (lent : List ℕ) (v : Receiver) → frame_listen F j lent ≡ listens (a-start.Started v.state) v.store → ListensIn F j v
+started : (F : Frame) (j : ℕ) (lent : List ℕ) (v : Receiver) → frame_listen F j lent ≡ listens (Ok v.state) v.store → ListensIn F j v
 unfolding frame_listen receiver_in fresh_receiver
 started F j lent v s =
-    let r = not_refused F (receiver_places F) j lent (listens (a-start.Started (record { phase = j; heard = 0 })) (filler_store F lent)) (λ n place. listens (a-start.Refused n place) lent)
-    (λ (x : Listening). is_listening x.answer) (listens (a-start.Started v.state) v.store) s refl (λ n place. refl) in
+    let r = not_refused F (receiver_places F) j lent (listens (Ok (record { phase = j; heard = 0 })) (filler_store F lent)) (λ n place. listens (refused_by n place) lent)
+    (λ (x : Listening). is_ok x.answer) (listens (Ok v.state) v.store) s refl (λ n place. refl) in
     record { lent = lent; phase_in = r.0.phase_in; fits = r.0.fits; is_fresh = sym (ap (receiver_in v) r.1) }
 
 pub listens_in : (F : Frame) (j : ℕ) (v : Receiver) → FreshReceiver (frame_entries F) j v → ListensIn F j v

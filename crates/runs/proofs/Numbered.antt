@@ -6,8 +6,8 @@ use mathlib.Core.List.{List, [], ◌∷◌}
 use native.Mathlib.Nat.{mod-eq_of_lt, mod-add-mod, add-zero}
 use native.Mathlib.Omega.{arith}
 use lib.ListN.{length}
-use Rattle.rules.specs.declared.Finding.{Finding}
-use Rattle.rules.specs.declared.Finding.TheVariants.{Fine, Ground}
+use Rattle.rules.specs.Refusals.{Finding, refused_by}
+use Rattle.std.specs.Prelude.{Ok}
 use Rattle.rules.specs.Frame.{Frame, cells, next_phase}
 use Rattle.rules.specs.Places.{moved}
 use Rattle.places.proofs.Kept.{length_moved}
@@ -43,9 +43,9 @@ pub record NumberedSteps (E A R : Type 0) : Type 1 where
   pub found : E → A → Finding
   pub After : ℕ → E → Type 0
   pub found_at : ℕ → A → Finding
-  pub fine : (e : E) (a : A) → found e a ≡ Fine → ok (step e a) ≡ true
-  pub away : (e : E) (a : A) (g place : ℕ) → found e a ≡ Ground g place → (ok (step e a) ≡ false) × (left (step e a) ≡ e)
-  pub on : (n : ℕ) (e : E) (a : A) → found e a ≡ Fine → After n e → After (suc n) (left (step e a))
+  pub fine : (e : E) (a : A) → found e a ≡ Ok tt → ok (step e a) ≡ true
+  pub away : (e : E) (a : A) (g place : ℕ) → found e a ≡ refused_by g place → (ok (step e a) ≡ false) × (left (step e a) ≡ e)
+  pub on : (n : ℕ) (e : E) (a : A) → found e a ≡ Ok tt → After n e → After (suc n) (left (step e a))
   pub same : (n : ℕ) (e : E) (a : A) → After n e → found e a ≡ found_at n a
 
 module _ {E A R : Type 0} (S : NumberedSteps E A R) where

@@ -13,7 +13,7 @@ use Rattle.counting.specs.Search.{when}
 use Rattle.counting.proofs.Bools.{by_test}
 use Rattle.counting.proofs.Laws.{none_lowest}
 use Rattle.counting.proofs.Lists.{get_d_tabulate}
-use Rattle.rules.specs.declared.Finding.TheVariants.{Fine}
+use Rattle.std.specs.Prelude.{Ok, is_ok}
 use Rattle.rules.specs.declared.ReceiverState.{ReceiverState}
 use Rattle.rules.specs.Grounds.{◌else◌, ground?}
 use Rattle.rules.specs.Frame.{Frame, cells, spot, data_count, Given, flush, data_list, input_cells, data_of, fits_role}
@@ -23,7 +23,7 @@ use Rattle.rules.specs.Receive as receive
 use Rattle.rules.specs.Receive.{Receiver, Arrival, out_phase, out_count, short_buffer, wrong_cell, ground20, frame_receive}
 use Rattle.frame.specs.Counted.{phase_of}
 use Rattle.frame.proofs.Cells.{Sound, data_back, length_line}
-use Rattle.runs.specs.Run.{UnderProfile, input, sent, is_received, Outcome, warming, handed, refused, heard, outcomes, receiver_after}
+use Rattle.runs.specs.Run.{UnderProfile, input, sent, Outcome, warming, handed, refused, heard, outcomes, receiver_after}
 use Rattle.runs.specs.Follow.{Follows}
 use Rattle.runs.specs.Demand3.{data_cells, sent_number, Returned}
 use Rattle.runs.proofs.Steps.{frame_entries, top, list_length, FreshIn}
@@ -36,8 +36,8 @@ use Rattle.runs.proofs.Places.{sent_at, cell_stands}
 -- ---- one more step
 
 -- no ground refuses a step whose lengths and cells are all right
-no_ground : (F : Frame) (j n : ℕ) (a : Arrival) → ground25 F.width a.profile ≡ Fine → length a.symbol ≡ F.width → short_buffer F (receiver_state F j n) a.buffer ≡ false
-    → ((k : ℕ) → k < F.width → wrong_cell F a.profile (phase_of F j n) a.symbol k ≡ false) → receive_grounds_at F j n a ≡ Fine
+no_ground : (F : Frame) (j n : ℕ) (a : Arrival) → ground25 F.width a.profile ≡ Ok tt → length a.symbol ≡ F.width → short_buffer F (receiver_state F j n) a.buffer ≡ false
+    → ((k : ℕ) → k < F.width → wrong_cell F a.profile (phase_of F j n) a.symbol k ≡ false) → receive_grounds_at F j n a ≡ Ok tt
 unfolding receive_grounds_at ground20
 no_ground F j n a hp hl hb hw = λ i.
     hp i
@@ -121,11 +121,11 @@ module _ (F : Frame) (ok : Sound F) (j : ℕ) (e : Emitter) (fresh : FreshIn F j
         outcome_at_lem (t + (F.depth - 1)) h
         ∙ rw (zero-add (t + (F.depth - 1)), le-ltb (t + (F.depth - 1)) (F.depth - 1) (omega arith), out_phase_lem F ok j t, q) (ap (handed (data_cells F j t)) (out_data t h))
 
-    module _ (w : List ℕ) (listed : ground25 F.width w ≡ Fine)
+    module _ (w : List ℕ) (listed : ground25 F.width w ≡ Ok tt)
         (fitting : (n k : ℕ) → n < length ys → k < F.width → fits_role (limit_at w k) (F.role (phase_of F j n) k) (get_or (get_or ys n []) k 0) ≡ true) where
       next : (a : Arrival) → a.profile ≡ w → length hs < length ys → a.symbol ≡ get_or ys (length hs) []
           → (F.depth - 1 ≤ length hs → data_cells F j (length hs - (F.depth - 1)) ≤ length a.buffer)
-          → is_received (frame_receive F (receiver_after (frame_entries F) v arrivals) a).answer ≡ true
+          → is_ok (frame_receive F (receiver_after (frame_entries F) v arrivals) a).answer ≡ true
       next a under h is room =
           let n : ℕ = length hs in
           let l : n < length gs = rw (length_sent F e steps) at h in

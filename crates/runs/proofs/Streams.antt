@@ -13,8 +13,8 @@ use lib.ListN.{length, get_or, take, drop, replicate, get_or-replicate, length-r
 use lib.Seq.{sets, take-take, take-nil, drop-drop, length-take-le}
 use borrow.Author.Tests.{ltb-false}
 use Rattle.counting.proofs.Laws.{lowest_none}
-use Rattle.rules.specs.declared.CountAnswer.TheVariants.{Count, Refused}
-use Rattle.rules.specs.declared.Finding.TheVariants.{Fine}
+use Rattle.rules.specs.Refusals.{refused_by}
+use Rattle.std.specs.Prelude.{Ok}
 use Rattle.rules.specs.Grounds.{◌else◌}
 use Rattle.rules.specs.Frame.{Frame, data_count, next_phase, Given, flush, symbol, data_list, filler}
 use Rattle.counting.specs.Bytes.{Octets}
@@ -37,8 +37,8 @@ use Rattle.runs.proofs.Fills.{fill_fine, fill_passed, fill_told_lem, filled_leng
 
 -- what the entries' filling and way back are, in cells
 pub record FillsAs (F : Frame) (E : Entries) (w : List ℕ) : Type 0 where
-  pub fill_as : (j : ℕ) (b : List ℕ) (a : ℕ) (room : List ℕ) (n : ℕ) (left : List ℕ) → E.fill w j b a room ≡ fills (Count n) left
-      → frame_fill F w j b a (E.read room) ≡ fills (Count n) (E.read left)
+  pub fill_as : (j : ℕ) (b : List ℕ) (a : ℕ) (room : List ℕ) (n : ℕ) (left : List ℕ) → E.fill w j b a room ≡ fills (Ok n) left
+      → frame_fill F w j b a (E.read room) ≡ fills (Ok n) (E.read left)
   pub unfill_as : (j : ℕ) (x : List ℕ) (a : ℕ) (c : List ℕ) → E.whole x ≡ true → E.unfill w j x a c ≡ frame_unfill F w j (E.read x) a c
 
 -- ---- parts of lists of bits
@@ -155,7 +155,7 @@ module _ (F : Frame) (E : Entries) (w : List ℕ) where
     Hands j (x ∷ xs) [] = ⊥
     Hands j (x ∷ xs) (g ∷ gs) = (E.whole x ≡ true) × (E.read x ≡ data_list F j g) × Hands (next_phase F j) xs gs
 
-    module _ (listed : ground25 F.width w ≡ Fine) (some : (j : ℕ) → j < F.phases → 1 ≤ data_count F j) where
+    module _ (listed : ground25 F.width w ≡ Ok tt) (some : (j : ℕ) → j < F.phases → 1 ≤ data_count F j) where
       -- filler is no data: the way back of a flush is refused, changes nothing and takes no bits
       flush_refused : (j k : ℕ) (c : List ℕ)
           → (bits_taken (frame_unfill F w j (data_list F j flush) k c).answer ≡ 0) × ((frame_unfill F w j (data_list F j flush) k c).left ≡ c)
@@ -172,19 +172,19 @@ module _ (F : Frame) (E : Entries) (w : List ℕ) where
           let small : get_or (data_loads F w j) 0 0 ≤ 14 = rw (load_at F w j 0 one) ((loaded F.width w listed).small _) in
           absurd (omega (arith, first, fits, limit_top (get_or (data_loads F w j) 0 0) small)))
           (λ n place e.
-          let r : frame_unfill F w j ds k c ≡ fills (Refused n place) c = unfill_refused F w j ds k c n place e in
+          let r : frame_unfill F w j ds k c ≡ fills (refused_by n place) c = unfill_refused F w j ds k c n place e in
           (ap (λ (x : Filling). bits_taken x.answer) r, ap (λ (x : Filling). x.left) r))
 
       -- the way back of a data symbol that was filled
       data_back : (j : ℕ) (b : List ℕ) (a k : ℕ) (c : List ℕ) → j < F.phases → bit_count F w j ≤ length b * 8 - a → bit_count F w j ≤ length c * 8 - k
-          → frame_unfill F w j (filled_from (data_loads F w j) b a) k c ≡ fills (Count (bit_count F w j)) (with_bits c k (bits_between b a (a + bit_count F w j)))
+          → frame_unfill F w j (filled_from (data_loads F w j) b a) k c ≡ fills (Ok (bit_count F w j)) (with_bits c k (bits_between b a (a + bit_count F w j)))
       unfolding unfill_grounds bit_count
       data_back j b a k c hj hb hc =
           let ls : List ℕ = data_loads F w j in
           let ds : List ℕ = filled_from ls b a in
           unfill_accepted F w j ds k c
           (λ i. fill_fine F w j (length ds) (length c) k listed hj (filled_length F w j b a) hc i else filled_19 F w j b a i)
-          ∙ ap (fills (Count (total ls))) (unfilled_with ls ds c k ∙ ap (with_bits c k) (bits j b a hb))
+          ∙ ap (fills (Ok (total ls))) (unfilled_with ls ds c k ∙ ap (with_bits c k) (bits j b a hb))
         where
           bits : (j : ℕ) (b : List ℕ) (a : ℕ) → total (data_loads F w j) ≤ length b * 8 - a → cell_bits (data_loads F w j) (filled_from (data_loads F w j) b a) ≡ bits_between b a (a + total (data_loads F w j))
           bits j b a h =
@@ -214,11 +214,11 @@ module _ (F : Frame) (E : Entries) (w : List ℕ) where
           let t = at_told j b a n ds f.1.0 in
           let r = ends (next_phase F j) gs b (a + n) z f.1.1 in
           let bs : List Bool = bits_between b a (a + n) in
-          let u : E.unfill w j x k c ≡ fills (Count n) (with_bits c k bs) =
+          let u : E.unfill w j x k c ≡ fills (Ok n) (with_bits c k bs) =
           same.unfill_as j x k c h.0
           ∙ ap (λ (y : List ℕ). frame_unfill F w j y k c) (h.1 ∙ symbol_data F j ds ∙ t.1)
           ∙ data_back j b a k c t.2 t.3 (omega (arith, t.0, r.0, room))
-          ∙ ap (λ (m : ℕ). fills (Count m) (with_bits c k (bits_between b a (a + m)))) (sym t.0) in
+          ∙ ap (λ (m : ℕ). fills (Ok m) (with_bits c k (bits_between b a (a + m)))) (sym t.0) in
           let size : length bs ≡ n = length_between b a n (omega (arith, t.0, t.3)) in
           let m : ℕ = z - (a + n) in
           let all : a + n + m ≡ z = omega (arith, r.0) in
@@ -265,7 +265,7 @@ module _ (F : Frame) (E : Entries) (w : List ℕ) (same : FillsAs F E w) where
       )
 
   -- the claim, of entries of which the rest of demand 3 holds
-  module _ (listed : ground25 F.width w ≡ Fine) (some : (j : ℕ) → j < F.phases → 1 ≤ data_count F j) (phase_in : (j : ℕ) (e : Emitter) → Fresh E j e → j < F.phases)
+  module _ (listed : ground25 F.width w ≡ Ok tt) (some : (j : ℕ) → j < F.phases → 1 ≤ data_count F j) (phase_in : (j : ℕ) (e : Emitter) → Fresh E j e → j < F.phases)
       (unique : (j : ℕ) (e e' : Emitter) → Fresh E j e → Fresh E j e' → (steps steps' : List Send) → Flushed F.depth (input E e steps) → Flushed F.depth (input E e' steps')
       → (sent E e steps ≡ sent E e' steps') ↔ (input E e steps ≡ input E e' steps'))
       (returned : (j : ℕ) (e : Emitter) (v : Receiver) → Fresh E j e → FreshReceiver E j v → (steps : List Send) (arrivals : List Arrival)

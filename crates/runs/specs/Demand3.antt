@@ -1,15 +1,14 @@
 -- Demand 3: one claim about whole runs from a fresh start (document 01, "Cells and interleaving"; 02, request 07), of entries over cells or over bytes. Statements only.
 -- Assumes nothing.
-use Rattle.std.specs.Prelude.{ℕ, ◌+◌, ◌-◌, ◌≤◌, ◌<◌, ◌≡◌, ◌↔◌, true, List, [], length, get_or}
+use Rattle.std.specs.Prelude.{ℕ, ◌+◌, ◌-◌, ◌≤◌, ◌<◌, ◌≡◌, ◌↔◌, true, List, [], length, get_or, Ok, is_ok}
 use Rattle.counting.specs.Search.{select}
 use Rattle.rules.specs.declared.Role.TheVariants.{Data}
-use Rattle.rules.specs.declared.Finding.TheVariants.{Fine}
 use Rattle.rules.specs.Frame.{Frame, cells, spot, delay, is_data, data_count, Given, flush, symbol, data_list}
 use Rattle.rules.specs.Loads.{ground25}
 use Rattle.rules.specs.Steps.{Emitter, Send}
 use Rattle.rules.specs.Receive.{Receiver, Arrival}
 use Rattle.frame.specs.Counted.{phase_of}
-use Rattle.runs.specs.Run.{Entries, UnderProfile, input, sent, Fresh, is_received, warming, handed, refused, heard, outcomes, receiver_after, FreshReceiver}
+use Rattle.runs.specs.Run.{Entries, UnderProfile, input, sent, Fresh, warming, handed, refused, heard, outcomes, receiver_after, FreshReceiver}
 use Rattle.runs.specs.Follow.{Flushed, Follows}
 use Rattle.runs.specs.Streams.{Streams}
 
@@ -52,10 +51,10 @@ pub record Returned (F : Frame) (E : Entries) (j : ℕ) (sends : List Send) (gs 
   pub back : (t : ℕ) → t + (F.depth - 1) < length (heard E v steps)
       → get_or (outcomes E v steps) (t + (F.depth - 1)) refused ≡ handed (data_cells F j t) (data_list F (phase_of F j t) (get_or gs t flush))
   -- one more step, given the profile that the emitter's run is under, the next symbol sent and, unless it is to answer warming, a data buffer long enough, is not refused
-  pub next : (w : List ℕ) → ground25 F.width w ≡ Fine → UnderProfile w sends → (a : Arrival) → a.profile ≡ w → E.whole a.symbol ≡ true → E.whole a.buffer ≡ true
+  pub next : (w : List ℕ) → ground25 F.width w ≡ Ok tt → UnderProfile w sends → (a : Arrival) → a.profile ≡ w → E.whole a.symbol ≡ true → E.whole a.buffer ≡ true
       → length (heard E v steps) < length ys → E.read a.symbol ≡ get_or ys (length (heard E v steps)) []
       → (F.depth - 1 ≤ length (heard E v steps) → data_cells F j (length (heard E v steps) - (F.depth - 1)) ≤ length (E.read a.buffer))
-      → is_received (E.hear (receiver_after E v steps) a).answer ≡ true
+      → is_ok (E.hear (receiver_after E v steps) a).answer ≡ true
 
 -- demand 3 of runs through the entries E, under the plan whose frame is F
 pub record Demand3 (F : Frame) (E : Entries) : Type 0 where
@@ -69,4 +68,4 @@ pub record Demand3 (F : Frame) (E : Entries) : Type 0 where
   pub returned : (j : ℕ) (e : Emitter) (v : Receiver) → Fresh E j e → FreshReceiver E j v → (steps : List Send) (arrivals : List Arrival)
       → Follows (sent E e steps) (heard E v arrivals) → Returned F E j steps (input E e steps) (sent E e steps) v arrivals
   -- and so with bit streams, under one profile that 25 does not refuse
-  pub streams : (w : List ℕ) → ground25 F.width w ≡ Fine → Streams F E w
+  pub streams : (w : List ℕ) → ground25 F.width w ≡ Ok tt → Streams F E w

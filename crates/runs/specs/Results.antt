@@ -1,7 +1,6 @@
 -- The results of a run's steps, refused ones included: what the caller is told and handed (document 01, "Cells and interleaving"). Assumes nothing.
 use Rattle.std.specs.Prelude.{ℕ, List, [], ◌∷◌}
-use Rattle.rules.specs.declared.SendAnswer.{SendAnswer}
-use Rattle.rules.specs.declared.ReceiveAnswer.{ReceiveAnswer}
+use Rattle.rules.specs.Refusals.{SendAnswer, ReceiveAnswer}
 use Rattle.rules.specs.Steps.{Sending}
 use Rattle.rules.specs.Receive.{Receiving}
 

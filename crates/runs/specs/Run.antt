@@ -1,17 +1,11 @@
 -- A run: a list of steps under one plan, refused ones included (document 01, "Cells and interleaving"). Assumes nothing.
-use Rattle.std.specs.Prelude.{ℕ, ◌≡◌, Bool, true, false, List, [], ◌∷◌, map, take}
+use Rattle.std.specs.Prelude.{ℕ, ◌≡◌, Bool, true, false, List, [], ◌∷◌, map, take, Result, Ok, Err, is_ok}
 use Rattle.counting.specs.Search.{pick}
 use Rattle.rules.specs.declared.Device.{Device}
-use Rattle.rules.specs.declared.EmitterState.{EmitterState}
-use Rattle.rules.specs.declared.ReceiverState.{ReceiverState}
-use Rattle.rules.specs.declared.StartAnswer.{StartAnswer}
-use Rattle.rules.specs.declared.SendAnswer.{SendAnswer}
-use Rattle.rules.specs.declared.ListenAnswer.{ListenAnswer}
-use Rattle.rules.specs.declared.ReceiveAnswer.{ReceiveAnswer}
-use Rattle.rules.specs.declared.SendAnswer.TheVariants as a-send
-use Rattle.rules.specs.declared.ReceiveAnswer.TheVariants as an-answer
-use Rattle.rules.specs.declared.StartAnswer.TheVariants as an-emitter
-use Rattle.rules.specs.declared.ListenAnswer.TheVariants as a-receiver
+use Rattle.rules.specs.declared.RefusedStep.{RefusedStep}
+use Rattle.rules.specs.declared.Heard.{Heard}
+use Rattle.rules.specs.declared.Heard.TheVariants.{Warming, Data}
+use Rattle.rules.specs.Refusals.{ReceiveAnswer}
 use Rattle.rules.specs.Frame.{Given, flush, symbol}
 use Rattle.rules.specs.Steps.{Emitter, Send, Sending, Starting, starts, start_step, send_step}
 use Rattle.rules.specs.Filling.{Filling, fill_step, unfill_step}
@@ -75,15 +69,10 @@ UnderProfile w (a ∷ rest) = GivenProfile w a × UnderProfile w rest
 
 -- ---- an emitter's run
 
--- an accepted step is one that no ground refuses
-abbrev pub is_sent : SendAnswer → Bool
-is_sent (a-send.Sent e) = true
-is_sent (a-send.Refused n place e) = false
-
 -- the state that an answer returns
-abbrev pub state_of : SendAnswer → EmitterState
-state_of (a-send.Sent e) = e
-state_of (a-send.Refused n place e) = e
+abbrev pub state_of : {S : Type 0} → Result S (RefusedStep S) → S
+state_of (Ok e) = e
+state_of (Err r) = r.state
 
 -- the next step is given the state that this one returned and the store as it left it
 abbrev pub emitter_left : Sending → Emitter
@@ -91,7 +80,7 @@ emitter_left r = record { state = state_of r.answer; store = r.store }
 
 module _ (E : Entries) (e : Emitter) (steps : List Send) where
   abbrev pub sendings : List (Send × Sending)
-  sendings = accepted_steps E.send (λ r. is_sent r.answer) emitter_left e steps
+  sendings = accepted_steps E.send (λ r. is_ok r.answer) emitter_left e steps
 
   -- the run's input: what its accepted steps were given
   unfoldable pub input : List Given
@@ -105,26 +94,17 @@ module _ (E : Entries) (e : Emitter) (steps : List Send) where
   abbrev pub emitter_after : Emitter
   emitter_after = after_steps E.send emitter_left e steps
 
-abbrev pub is_started : StartAnswer → Bool
-is_started (an-emitter.Started e) = true
-is_started (an-emitter.Refused n place) = false
-
 -- e is what a fresh start at phase j left, in some lent store
 pub record Fresh (E : Entries) (j : ℕ) (e : Emitter) : Type 0 where
   pub lent : List ℕ
-  pub start : E.start j lent ≡ starts (an-emitter.Started e.state) e.store
+  pub start : E.start j lent ≡ starts (Ok e.state) e.store
 
 -- ---- a receiver's run
 
-abbrev pub is_received : ReceiveAnswer → Bool
-is_received (an-answer.Warming v) = true
-is_received (an-answer.Data v n) = true
-is_received (an-answer.Refused n place v) = false
-
-abbrev pub state_heard : ReceiveAnswer → ReceiverState
-state_heard (an-answer.Warming v) = v
-state_heard (an-answer.Data v n) = v
-state_heard (an-answer.Refused n place v) = v
+abbrev pub state_heard : {S : Type 0} → Result (Heard S) (RefusedStep S) → S
+state_heard (Ok (Warming v)) = v
+state_heard (Ok (Data v n)) = v
+state_heard (Err r) = r.state
 
 abbrev pub receiver_left : Receiving → Receiver
 receiver_left r = record { state = state_heard r.answer; store = r.store }
@@ -136,13 +116,13 @@ pub data Outcome : Type 0 where
   refused : Outcome
 
 abbrev pub outcome_of : ReceiveAnswer → List ℕ → Outcome
-outcome_of (an-answer.Warming v) buffer = warming
-outcome_of (an-answer.Data v n) buffer = handed n (take n buffer)
-outcome_of (an-answer.Refused n place v) buffer = refused
+outcome_of (Ok (Warming v)) buffer = warming
+outcome_of (Ok (Data v n)) buffer = handed n (take n buffer)
+outcome_of (Err r) buffer = refused
 
 module _ (E : Entries) (v : Receiver) (steps : List Arrival) where
   abbrev pub receivings : List (Arrival × Receiving)
-  receivings = accepted_steps E.hear (λ r. is_received r.answer) receiver_left v steps
+  receivings = accepted_steps E.hear (λ r. is_ok r.answer) receiver_left v steps
 
   -- the symbols that the accepted steps were given
   unfoldable pub heard : List (List ℕ)
@@ -156,11 +136,7 @@ module _ (E : Entries) (v : Receiver) (steps : List Arrival) where
   abbrev pub receiver_after : Receiver
   receiver_after = after_steps E.hear receiver_left v steps
 
-abbrev pub is_listening : ListenAnswer → Bool
-is_listening (a-receiver.Started v) = true
-is_listening (a-receiver.Refused n place) = false
-
 -- v is what a receiver's fresh start at phase j left, in some lent store
 pub record FreshReceiver (E : Entries) (j : ℕ) (v : Receiver) : Type 0 where
   pub lent : List ℕ
-  pub start : E.listen j lent ≡ listens (a-receiver.Started v.state) v.store
+  pub start : E.listen j lent ≡ listens (Ok v.state) v.store

@@ -1,8 +1,7 @@
 -- Runs whose data symbols are filled from a bit stream, each symbol's bits starting where the last one's ended, and what is claimed of them (document 02, request 07), of
 -- entries over cells or over bytes. Statements only. Assumes nothing.
-use Rattle.std.specs.Prelude.{ℕ, ◌+◌, ◌-◌, ◌*◌, ◌≤◌, ◌<◌, ◌≡◌, Bool, true, List, [], ◌∷◌, length, get_or, drop}
-use Rattle.rules.specs.declared.CountAnswer.{CountAnswer}
-use Rattle.rules.specs.declared.CountAnswer.TheVariants.{Count, Refused}
+use Rattle.std.specs.Prelude.{ℕ, ◌+◌, ◌-◌, ◌*◌, ◌≤◌, ◌<◌, ◌≡◌, Bool, true, List, [], ◌∷◌, length, get_or, drop, Ok, Err}
+use Rattle.rules.specs.Refusals.{CountAnswer}
 use Rattle.rules.specs.Frame.{Frame, next_phase, Given, flush, symbol}
 use Rattle.counting.specs.Bytes.{Octets}
 use Rattle.rules.specs.Bits.{cells_from, bits_between, with_bits}
@@ -15,8 +14,8 @@ use Rattle.runs.specs.Follow.{Flushed, Follows}
 
 -- how many bits an answer says were taken: a refusal takes none
 abbrev pub bits_taken : CountAnswer → ℕ
-bits_taken (Count n) = n
-bits_taken (Refused g place) = 0
+bits_taken (Ok n) = n
+bits_taken (Err r) = 0
 
 module _ (F : Frame) (E : Entries) (w : List ℕ) where
   -- The data symbols of an input, from phase j on, are filled from the bits bs, which are used up; a flush takes none.
@@ -29,7 +28,7 @@ module _ (F : Frame) (E : Entries) (w : List ℕ) where
   pub record FilledAt (j : ℕ) (stream : List ℕ) (a n : ℕ) (ds : List ℕ) : Type 0 where
     pub room : List ℕ
     pub left : List ℕ
-    pub fill : E.fill w j stream a room ≡ fills (Count n) left
+    pub fill : E.fill w j stream a room ≡ fills (Ok n) left
     pub cells : E.read left ≡ ds
 
   -- The data symbols of an input, from phase j on, are filled from a stream in bytes, from bit a up to bit z, by the entry's own filling; a flush takes none.

@@ -2,8 +2,7 @@
 // it (specs/Claims). The two functions do nothing; their contracts are the claims, so that they stand among the proved lines.
 #![tactic(auto)]
 
-ghost use Rattle.std.specs.Prelude.{ℕ, ◌≡◌, List};
-ghost use Rattle.rules.specs.declared.Verdict.TheVariants.{Accepted};
+ghost use Rattle.std.specs.Prelude.{ℕ, ◌≡◌, List, Ok};
 ghost use Rattle.rules.specs.Device.{khz50};
 ghost use Rattle.rules.specs.Plan.{plan_of};
 ghost use Rattle.rules.specs.Grounds.{verdict};
@@ -14,11 +13,11 @@ ghost use Rattle.runs.specs.Claims.{PlanClaims};
 
 // Every accepted plan, every starting phase, all lists of steps: placed, unique, returned.
 pub fn demand_3()
-    ensures { (s : List ℕ) (n : ℕ) → verdict khz50 s ≡ Accepted n → Demand3 (frame_of khz50 (plan_of s)) (cell_entries khz50 s) }
+    ensures { (s : List ℕ) (n : ℕ) → verdict khz50 s ≡ Ok n → Demand3 (frame_of khz50 (plan_of s)) (cell_entries khz50 s) }
 {}
 
 // Every accepted plan: some data at each phase, the counts over 128 phases, the pilot rule of every symbol that a run sends, and that no
 // fresh start or step that is given what it asks for is refused.
 pub fn plan_claims()
-    ensures { (s : List ℕ) (n : ℕ) → verdict khz50 s ≡ Accepted n → PlanClaims (frame_of khz50 (plan_of s)) (cell_entries khz50 s) }
+    ensures { (s : List ℕ) (n : ℕ) → verdict khz50 s ≡ Ok n → PlanClaims (frame_of khz50 (plan_of s)) (cell_entries khz50 s) }
 {}

@@ -1,6 +1,5 @@
 -- The data of linkcheck's input symbols (docs/LINKCHECK.md, "What is tried"). Assumes nothing.
-use Rattle.std.specs.Prelude.{ℕ, ◌+◌, ◌*◌, ◌%◌, Bool, true, false, not, List, leb, ltb, eqb, get_or}
-use Rattle.std.proofs.Math.Option
+use Rattle.std.specs.Prelude.{ℕ, ◌+◌, ◌*◌, ◌%◌, Bool, not, ◌||◌, List, leb, ltb, eqb, get_or, unwrap_or}
 use Rattle.counting.specs.Search.{pick, lowest}
 
 -- input t is a flush
@@ -23,10 +22,14 @@ wanted_at s t n limits c = pick (leb n c) 43981 (pick (is_flush t) 32769 (data_c
 abbrev pub is_other : ℕ → ℕ → ℕ → List ℕ → List ℕ → ℕ → Bool
 is_other s t n limits cells c = not (eqb (get_or cells c 0) (wanted_at s t n limits c))
 
--- a wrong receive of this kind spoils such a cell: 6 a placeholder, 7 data or filler, another kind none
-abbrev pub is_spoiled : ℕ → ℕ → Bool
-is_spoiled kind cell = pick (eqb kind 6) (eqb cell 32768) (pick (eqb kind 7) (pick (eqb cell 32769) true (ltb cell 16384)) false)
+-- a cell is a scattered placeholder
+abbrev pub is_placeholder : ℕ → Bool
+is_placeholder cell = eqb cell 32768
+
+-- a cell is data, of whatever load, or filler
+abbrev pub is_data : ℕ → Bool
+is_data cell = eqb cell 32769 || ltb cell 16384
 
 -- the lowest place below n that passes, n where none does
 abbrev pub first_of : (ℕ → Bool) → ℕ → ℕ
-first_of p n = Option.get_or (lowest p n) n
+first_of p n = unwrap_or (lowest p n) n

@@ -2,9 +2,9 @@
 // limit, that of its load; `limits` are those of the data cells in their order.
 ghost use Rattle.std.specs.Prelude.{◌≡◌, ◌+◌, ◌%◌, min, eqb, length, get_or};
 ghost use Rattle.samples.specs.Drawn.{filled};
-ghost use Rattle.samples.specs.Inputs.{is_flush, seed_of, data_cell, wanted_at, is_other, is_spoiled, first_of};
+ghost use Rattle.samples.specs.Inputs.{is_flush, seed_of, data_cell, wanted_at, is_other, is_placeholder, is_data, first_of};
 
-use crate::{at, at_most};
+use crate::at;
 
 // The mark of filler.
 const FILLER: u16 = 0x8001;
@@ -48,11 +48,8 @@ fn cell(seed: u32, limits: &[u16], place: usize) -> u16
 pub fn draw(seed: u32, n: usize, limits: &[u16], cells: &mut [u16])
     ensures { cells.new ≡ filled (data_cell seed limits.now) (min n (length cells.old)) cells.old }
 {
-    let end = at_most(n, cells);
-    let mut i: usize = 0;
-    while i < end {
+    for i in 0..n.min(cells.len()) {
         cells[i] = cell(seed, limits, i);
-        i += 1;
     }
 }
 
@@ -73,42 +70,37 @@ pub fn wanted(start: u32, t: u32, count: usize, limits: &[u16], place: usize) ->
 pub fn first_other(start: u32, t: u32, count: usize, limits: &[u16], cells: &[u16]) -> usize
     ensures { result ≡ first_of (is_other start t count limits.now cells.now) (length cells.now) }
 {
-    let mut i: usize = 0;
-    while i < cells.len() {
-        if cells[i] != wanted(start, t, count, limits, i) {
+    for (i, x) in cells.iter().enumerate() {
+        if *x != wanted(start, t, count, limits, i) {
             return i;
         }
-        i += 1;
     }
-    i
+    cells.len()
 }
 
-// Whether a cell of the symbol is one to spoil for a wrong receive of this kind.
-fn spoils(kind: u32, cell: u16) -> bool
-    ensures { result ≡ is_spoiled kind cell }
+// The lowest place at which a scattered placeholder stands; the length where there is none.
+pub fn first_placeholder(symbol: &[u16]) -> usize
+    ensures { result ≡ first_of (λ k. is_placeholder (get_or symbol.now k 0)) (length symbol.now) }
 {
-    if kind == 6 {
-        return cell == PLACEHOLDER;
-    }
-    if kind != 7 {
-        return false;
-    }
-    if cell == FILLER {
-        return true;
-    }
-    cell < 16384
+    symbol
+        .iter()
+        .position(|cell| *cell == PLACEHOLDER)
+        .unwrap_or(symbol.len())
 }
 
-// The lowest place at which the symbol is to be spoiled; its length where there is none.
-pub fn spoiled_at(kind: u32, symbol: &[u16]) -> usize
-    ensures { result ≡ first_of (λ k. is_spoiled kind (get_or symbol.now k 0)) (length symbol.now) }
+// Whether a cell is data, of whatever load, or filler.
+fn is_data(cell: u16) -> bool
+    ensures { result ≡ is_data cell }
 {
-    let mut k: usize = 0;
-    while k < symbol.len() {
-        if spoils(kind, symbol[k]) {
-            return k;
-        }
-        k += 1;
-    }
-    k
+    cell == FILLER || cell < 16384
+}
+
+// The lowest place at which data or filler stands; the length where there is none.
+pub fn first_data(symbol: &[u16]) -> usize
+    ensures { result ≡ first_of (λ k. is_data (get_or symbol.now k 0)) (length symbol.now) }
+{
+    symbol
+        .iter()
+        .position(|cell| is_data(*cell))
+        .unwrap_or(symbol.len())
 }

@@ -1,5 +1,5 @@
-// The data that the programs send, worked out by rule: `draw` is the generator of the executed cases, module `inputs` the data of linkcheck's
-// input symbols. Beside them the cell at a place, and M of a plan.
+// The data that the programs send, worked out by rule: `draw` is the generator of the executed cases, module `inputs` the data of
+// linkcheck's input symbols. Beside them the cell at a place, and M of a plan.
 #![tactic(auto)]
 
 ghost use Rattle.std.specs.Prelude.{◌≡◌, min, length, get_or, set};
@@ -31,16 +31,6 @@ pub fn swap(cells: &mut [u16], place: usize, x: u16) -> u16
     0
 }
 
-// How many cells there are among the first n of the cells.
-pub(crate) fn at_most(n: usize, cells: &[u16]) -> usize
-    ensures { result ≡ min n (length cells.now) }
-{
-    if n < cells.len() {
-        return n;
-    }
-    cells.len()
-}
-
 // The generator's next number.
 fn drawn(x: u32) -> u32
     ensures { result ≡ following x }
@@ -53,14 +43,10 @@ pub fn draw(x: u32, n: usize, cells: &mut [u16]) -> u32
     ensures value { result ≡ nth x (min n (length cells.old)) }
     ensures cells_after { cells.new ≡ filled (drawn_at x) (min n (length cells.old)) cells.old }
 {
-    let end = at_most(n, cells);
     let mut last = x;
-    let mut i: usize = 0;
-    while i < end {
-        let next = drawn(last);
-        last = next;
-        cells[i] = (next % 16384) as u16;
-        i += 1;
+    for i in 0..n.min(cells.len()) {
+        last = drawn(last);
+        cells[i] = (last % 16384) as u16;
     }
     last
 }
@@ -72,12 +58,5 @@ pub fn depth_of(plan: &[u8]) -> u32
     if plan.len() < 8 {
         return 0;
     }
-    wide(plan[7])
-}
-
-// A byte as a number.
-fn wide(x: u8) -> u32
-    ensures { result ≡ x }
-{
-    x as u32
+    u32::from(plan[7])
 }

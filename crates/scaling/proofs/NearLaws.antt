@@ -7,14 +7,13 @@ use lib.IntN.{ℤ}
 use lib.Ieee.{Float, nan, inf, fin, binary32, to_bits, is_nan}
 use Rattle.counting.proofs.Bools.{and_intro, and_left, and_right, conflict}
 use Rattle.points.specs.declared.Point.{Point}
-use Rattle.points.specs.declared.PointAnswer.{PointAnswer}
-use Rattle.points.specs.declared.PointAnswer.TheVariants as a_point
+use Rattle.std.specs.Prelude.{Ok, Err}
+use Rattle.rules.specs.Refusals.{refused_by}
 use Rattle.points.specs.Points.{point_of, load_listed}
 use Rattle.points.specs.Roots.{root}
-use Rattle.points.specs.Answers.{point_answer}
+use Rattle.points.specs.Answers.{PointAnswer, point_answer}
 use Rattle.points.proofs.BackLaws.{answered, point_22, point_23, point_at, covered, at_most, small_x, small_y}
 use Rattle.scaling.specs.declared.ScaledPoint.{ScaledPoint}
-use Rattle.scaling.specs.declared.ScaledAnswer.TheVariants as a-scaled
 use Rattle.scaling.specs.Single.{near}
 use Rattle.scaling.specs.Scale.{scaled, scaled_point, near_point, scaled_from, scaled_answer, near_answer}
 use Rattle.scaling.proofs.Sweep.{all_near}
@@ -27,10 +26,10 @@ near_point_lem m v t =
     (all_near m p.y (covered m t).some (at_most m t) (small_y m v t))
 
 near_from : (m v : ℕ) (a : PointAnswer) → point_answer m v ≡ a → near_answer m v (scaled_from m a) ≡ true
-near_from m v (a_point.At p) e =
+near_from m v (Ok p) e =
     let k = answered m v p e in
     subst (λ (q : Point). near_point m (point_of m v) (scaled_point m q) ≡ true) k.same (near_point_lem m v k.load)
-near_from m v (a_point.Refused n place) e = refl
+near_from m v (Err r) e = refl
 
 pub near_scaled : (m v : ℕ) → near_answer m v (scaled_answer m v) ≡ true
 unfolding scaled_answer
@@ -38,15 +37,15 @@ near_scaled m v = near_from m v (point_answer m v) refl
 
 -- ---- the scaled answer, ground by ground
 
-pub scaled_22 : (m v : ℕ) → load_listed m ≡ false → scaled_answer m v ≡ a-scaled.Refused 22 m
+pub scaled_22 : (m v : ℕ) → load_listed m ≡ false → scaled_answer m v ≡ refused_by 22 m
 unfolding scaled_answer
 scaled_22 m v t = ap (scaled_from m) (point_22 m v t)
 
-pub scaled_23 : (m v : ℕ) → load_listed m ≡ true → 2 ^ m ≤ v → scaled_answer m v ≡ a-scaled.Refused 23 v
+pub scaled_23 : (m v : ℕ) → load_listed m ≡ true → 2 ^ m ≤ v → scaled_answer m v ≡ refused_by 23 v
 unfolding scaled_answer
 scaled_23 m v t h = ap (scaled_from m) (point_23 m v t h)
 
-pub scaled_at : (m v : ℕ) → load_listed m ≡ true → v < 2 ^ m → scaled_answer m v ≡ a-scaled.At (scaled_point m (point_of m v))
+pub scaled_at : (m v : ℕ) → load_listed m ≡ true → v < 2 ^ m → scaled_answer m v ≡ Ok (scaled_point m (point_of m v))
 unfolding scaled_answer
 scaled_at m v t h = ap (scaled_from m) (point_at m v t h)
 

@@ -11,6 +11,7 @@ ghost use Rattle.scaling.specs.Scale.{factor, scaled_point, root_answer, scaled_
 
 use gray::power;
 use points::{Point, load_listed, point_at};
+use rules::Refusal;
 
 // The numbers under the root, for loads 1 to 14 (the document's table of scaling factors).
 const ROOTS: [u32; 14] = [
@@ -40,20 +41,6 @@ const FACTORS: [f32; 14] = [
 pub struct ScaledPoint {
     pub x: f32,
     pub y: f32,
-}
-
-// The answer to which number stands under the root of a load's factor.
-#[derive(Clone, Copy)]
-pub enum RootAnswer {
-    Root(u32),
-    Refused(u32, u32),
-}
-
-// The answer to which scaled point: the point, or refused with number and place.
-#[derive(Clone, Copy)]
-pub enum ScaledAnswer {
-    At(ScaledPoint),
-    Refused(u32, u32),
 }
 
 // The factor of a load.
@@ -94,13 +81,16 @@ fn root_at(load: u32) -> u32
 }
 
 // The number under the root: refused by 22.
-pub fn root_of(load: u32) -> RootAnswer
+pub fn root_of(load: u32) -> Result<u32, Refusal>
     ensures { result ≡ root_answer load }
 {
     if !load_listed(load) {
-        return RootAnswer::Refused(22, load);
+        return Err(Refusal {
+            number: 22,
+            place: load,
+        });
     }
-    RootAnswer::Root(root_at(load))
+    Ok(root_at(load))
 }
 
 // The scaled point of a value, where the load has been tried.
@@ -112,17 +102,23 @@ pub fn scaled_at(load: u32, value: u32) -> ScaledPoint
 }
 
 // The scaled point of a value: refused by 22, then 23.
-pub fn scaled_of(load: u32, value: u32) -> ScaledAnswer
+pub fn scaled_of(load: u32, value: u32) -> Result<ScaledPoint, Refusal>
     ensures answer { result ≡ scaled_answer load value }
     ensures near { near_answer load value result ≡ true }
 {
     if !load_listed(load) {
-        return ScaledAnswer::Refused(22, load);
+        return Err(Refusal {
+            number: 22,
+            place: load,
+        });
     }
     if power(load) <= value {
-        return ScaledAnswer::Refused(23, value);
+        return Err(Refusal {
+            number: 23,
+            place: value,
+        });
     }
-    ScaledAnswer::At(scaled_at(load, value))
+    Ok(scaled_at(load, value))
 }
 
 // Each of the fourteen factors is the single nearest to 1 over the root.

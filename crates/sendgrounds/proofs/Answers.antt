@@ -7,12 +7,9 @@ use lib.ListN.{length}
 use borrow.Author.Tests.{ltb-false}
 use Rattle.counting.specs.Search.{pick}
 use Rattle.rules.specs.declared.Device.{Device}
-use Rattle.rules.specs.declared.Finding.{Finding}
-use Rattle.rules.specs.declared.Finding.TheVariants.{Fine, Ground}
-use Rattle.rules.specs.declared.Verdict.TheVariants.{Accepted, Refused}
+use Rattle.rules.specs.Refusals.{Finding, SendAnswer, refusal, refused_by, refused_step}
+use Rattle.std.specs.Prelude.{Ok, Err}
 use Rattle.rules.specs.declared.EmitterState.{EmitterState}
-use Rattle.rules.specs.declared.SendAnswer.{SendAnswer}
-use Rattle.rules.specs.declared.SendAnswer.TheVariants as a-send
 use Rattle.rules.specs.Device.{phases}
 use Rattle.rules.specs.Plan.{plan_of}
 use Rattle.rules.specs.Grounds.{◌else◌, grounds1to15}
@@ -41,12 +38,12 @@ module _ (d : Device) (s : List ℕ) (e : Emitter) (a : Send) where
   sends literal = pick literal (second.accepted F e a.given) (first.accepted F e a.given)
 
   after : Bool → Finding → Sending
-  after literal f = elim f [ Fine ↦ sends literal | Ground n place ↦ first.refused e a n place ]
+  after literal f = elim f [ Ok _ ↦ sends literal | Err r ↦ first.refused e a r ]
 
-  merged : (literal : Bool) (f g : Finding) → after literal (f else g) ≡ elim f [ Fine ↦ after literal g | Ground n place ↦ first.refused e a n place ]
+  merged : (literal : Bool) (f g : Finding) → after literal (f else g) ≡ elim f [ Ok _ ↦ after literal g | Err r ↦ first.refused e a r ]
   unfolding after
-  merged literal Fine g = refl
-  merged literal (Ground n place) g = refl
+  merged literal (Ok tt) g = refl
+  merged literal (Err r) g = refl
 
   step_is : (literal : Bool) → after literal (send_finding literal d s e a) ≡ step_of literal d s e a
   unfolding send_finding after sends send_step first.frame_step figure_send_step second.frame_step
@@ -60,12 +57,12 @@ module _ (literal : Bool) (d : Device) (s : List ℕ) (e : Emitter) (a : Send) w
   Shown r store out = leaves r store out ≡ step_of literal d s e a
 
   -- a refused step hands the state back and leaves the rest as it was
-  pub refused : (n place : ℕ) → Refused n place ≡ send_verdict literal d s e a → Shown (a-send.Refused n place e.state) e.store a.room
+  pub refused : (n place : ℕ) → refused_by n place ≡ send_verdict literal d s e a → Shown (refused_step (refusal n place) e.state) e.store a.room
   unfolding send_verdict after
   refused n place h = sym (ap (after d s e a literal) (refused_is (send_finding literal d s e a) n place (cells (F d s e a)) h)) ∙ step_is d s e a literal
 
-  module _ (n : ℕ) (h : Accepted n ≡ send_verdict literal d s e a) where
-    passed : (send_finding literal d s e a ≡ Fine) × (n ≡ cells (F d s e a))
+  module _ (n : ℕ) (h : Ok n ≡ send_verdict literal d s e a) where
+    passed : (send_finding literal d s e a ≡ Ok tt) × (n ≡ cells (F d s e a))
     unfolding send_verdict
     passed = accepted_is (send_finding literal d s e a) n (cells (F d s e a)) h
 
@@ -86,37 +83,37 @@ module _ (literal : Bool) (d : Device) (s : List ℕ) (e : Emitter) (a : Send) w
         )
 
     -- an accepted step: the phase has gone up, and what either emitter sends is sent
-    accepted_step : (st out : List ℕ) (r : EmitterState) → leaves (a-send.Sent r) st out ≡ sends d s e a literal → Shown (a-send.Sent r) st out
+    accepted_step : (st out : List ℕ) (r : EmitterState) → leaves (Ok r) st out ≡ sends d s e a literal → Shown (Ok r) st out
     unfolding after
     accepted_step st out r is = is ∙ sym (ap (after d s e a literal) passed.0) ∙ step_is d s e a literal
 
 module _ (d : Device) (s : List ℕ) (e : Emitter) (a : Send) (n : ℕ) where
   -- the first emitter: of each cell the oldest placed, the input cell stored
-  pub sent : Accepted n ≡ send_verdict false d s e a → (m k : ℕ) (x st out : List ℕ) (r : EmitterState) → m ≡ (plan_of s).depth → k ≡ n
+  pub sent : Ok n ≡ send_verdict false d s e a → (m k : ℕ) (x st out : List ℕ) (r : EmitterState) → m ≡ (plan_of s).depth → k ≡ n
       → x ≡ input_cells (F d s e a) e.state.phase a.given
       → st ≡ moved (emitter_delay m) k e.store x
       → out ≡ line_symbol (F d s e a) (oldest (emitter_delay m) k e.store x)
       → r ≡ record { phase = (e.state.phase + 1) % phases }
-      → leaves (a-send.Sent r) st out ≡ send_step d s e a
+      → leaves (Ok r) st out ≡ send_step d s e a
   unfolding sends first.accepted first.sent_symbol first.sent_store next_state frame_of
   sent h m k x st out r em ek ex es eo er =
       let all = ek ∙ (passed false d s e a n h).1 in
       let put : st ≡ first.sent_store (F d s e a) e a.given = es ∙ (λ i. moved (emitter_delay (em i)) (all i) e.store (ex i)) in
       let out_is : out ≡ first.sent_symbol (F d s e a) e a.given = eo ∙ (λ i. line_symbol (F d s e a) (oldest (emitter_delay (em i)) (all i) e.store (ex i))) in
       let next : r ≡ next_state (F d s e a) e.state = er in
-      accepted_step false d s e a n h st out r (λ i. leaves (a-send.Sent (next i)) (put i) (out_is i))
+      accepted_step false d s e a n h st out r (λ i. leaves (Ok (next i)) (put i) (out_is i))
 
   -- the second: the input symbol has gone through the lines, and the cells that came out are placed
-  pub sent_through : Accepted n ≡ send_verdict true d s e a → (m k : ℕ) (x st out : List ℕ) (r : EmitterState) → m ≡ (plan_of s).depth → k ≡ n
+  pub sent_through : Ok n ≡ send_verdict true d s e a → (m k : ℕ) (x st out : List ℕ) (r : EmitterState) → m ≡ (plan_of s).depth → k ≡ n
       → x ≡ input_cells (F d s e a) e.state.phase a.given
       → st ≡ figure_store m k e.store x
       → out ≡ line_symbol (F d s e a) (figure_cells m k e.store x)
       → r ≡ record { phase = (e.state.phase + 1) % phases }
-      → leaves (a-send.Sent r) st out ≡ figure_send_step d s e a
+      → leaves (Ok r) st out ≡ figure_send_step d s e a
   unfolding sends second.accepted second.sent_symbol second.sent_store next_state frame_of
   sent_through h m k x st out r em ek ex es eo er =
       let all = ek ∙ (passed true d s e a n h).1 in
       let put : st ≡ second.sent_store (F d s e a) e a.given = es ∙ (λ i. figure_store (em i) (all i) e.store (ex i)) in
       let out_is : out ≡ second.sent_symbol (F d s e a) e a.given = eo ∙ (λ i. line_symbol (F d s e a) (figure_cells (em i) (all i) e.store (ex i))) in
       let next : r ≡ next_state (F d s e a) e.state = er in
-      accepted_step true d s e a n h st out r (λ i. leaves (a-send.Sent (next i)) (put i) (out_is i))
+      accepted_step true d s e a n h st out r (λ i. leaves (Ok (next i)) (put i) (out_is i))

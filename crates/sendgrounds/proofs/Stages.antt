@@ -7,9 +7,8 @@ use lib.ListN.{length}
 use borrow.Author.Tests.{lt-ltb, le-ltb}
 use Rattle.counting.specs.Search.{when}
 use Rattle.rules.specs.declared.Device.{Device}
-use Rattle.rules.specs.declared.Finding.{Finding}
-use Rattle.rules.specs.declared.Finding.TheVariants.{Fine, Ground}
-use Rattle.rules.specs.declared.Verdict.TheVariants.{Refused}
+use Rattle.rules.specs.Refusals.{Finding, refused_by}
+use Rattle.std.specs.Prelude.{Ok}
 use Rattle.rules.specs.Plan.{plan_of}
 use Rattle.rules.specs.Grounds.{◌else◌, ground?, grounds1to15, answer}
 use Rattle.rules.specs.Frame.{Frame, frame_of, cells}
@@ -51,16 +50,16 @@ module _ (literal : Bool) (d : Device) (s : List ℕ) (e : Emitter) (a : Send) w
   found_is = refl
 
   -- refused as the plan is
-  pub by_plan : (n place : ℕ) → grounds1to15 d s ≡ Ground n place → Refused n place ≡ send_verdict literal d s e a
+  pub by_plan : (n place : ℕ) → grounds1to15 d s ≡ refused_by n place → refused_by n place ≡ send_verdict literal d s e a
   unfolding send_verdict found
   by_plan n place h = ap (λ (f : Finding). answer f (cells F)) (sym (ap (λ (f : Finding). found f of_profile) h) ∙ found_is)
 
   -- refused by 25
-  pub by_profile : grounds1to15 d s ≡ Fine → (n place : ℕ) → Ground n place ≡ of_profile → Refused n place ≡ send_verdict literal d s e a
+  pub by_profile : grounds1to15 d s ≡ Ok tt → (n place : ℕ) → refused_by n place ≡ of_profile → refused_by n place ≡ send_verdict literal d s e a
   unfolding send_verdict found
   by_profile fine n place h = ap (λ (f : Finding). answer f (cells F)) (sym (λ i. found (fine i) (sym h i)) ∙ found_is)
 
-  module _ (fine : grounds1to15 d s ≡ Fine) (listed : of_profile ≡ Fine) where
+  module _ (fine : grounds1to15 d s ≡ Ok tt) (listed : of_profile ≡ Ok tt) where
     -- 16 and 17 come before 27, and that before those that speak of the data
     staged : (f : Finding) → f ≡ (of_lent else of_lines else of_given) → answer f (cells F) ≡ send_verdict literal d s e a
     unfolding send_verdict found
@@ -70,17 +69,17 @@ module _ (literal : Bool) (d : Device) (s : List ℕ) (e : Emitter) (a : Send) w
         ∙ sym (λ i. found (fine i) (listed i)) ∙ found_is)
 
     -- refused by 16 or 17
-    pub by_lent : (n place : ℕ) → Ground n place ≡ of_lent → Refused n place ≡ send_verdict literal d s e a
-    by_lent n place h = staged (Ground n place) (ap (λ (f : Finding). f else of_lines else of_given) h)
+    pub by_lent : (n place : ℕ) → refused_by n place ≡ of_lent → refused_by n place ≡ send_verdict literal d s e a
+    by_lent n place h = staged (refused_by n place) (ap (λ (f : Finding). f else of_lines else of_given) h)
 
-    module _ (lent-fine : Fine ≡ of_lent) where
+    module _ (lent-fine : (Ok tt) ≡ of_lent) where
       after_lent : (f : Finding) → f ≡ (of_lines else of_given) → answer f (cells F) ≡ send_verdict literal d s e a
       after_lent f g = staged f (g ∙ ap (λ (x : Finding). x else of_lines else of_given) lent-fine)
 
       -- refused by 27
-      pub by_lines : length e.store < places27 literal F → Refused 27 0 ≡ send_verdict literal d s e a
+      pub by_lines : length e.store < places27 literal F → refused_by 27 0 ≡ send_verdict literal d s e a
       unfolding ground27 short_store
-      by_lines h = after_lent (Ground 27 0) (sym (λ i. ground? 27 (when (lt-ltb (length e.store) (places27 literal F) h i) 0) else of_given))
+      by_lines h = after_lent (refused_by 27 0) (sym (λ i. ground? 27 (when (lt-ltb (length e.store) (places27 literal F) h i) 0) else of_given))
 
       -- left to 18 and 19
       pub by_given : places27 literal F ≤ length e.store → (f : Finding) → f ≡ of_given → answer f (cells F) ≡ send_verdict literal d s e a

@@ -1,9 +1,7 @@
 -- Which sending steps no ground refuses, of either emitter, and what such a step has made of the plan and its data. Assumes nothing.
-use Rattle.std.specs.Prelude.{◌≡◌, Bool, List, ℕ, ◌<◌, length, get_or, take}
+use Rattle.std.specs.Prelude.{◌≡◌, Bool, List, ℕ, ◌<◌, length, get_or, take, Ok, Err}
 use Rattle.rules.specs.declared.Device.{Device}
-use Rattle.rules.specs.declared.Finding.{Finding}
-use Rattle.rules.specs.declared.Verdict.{Verdict}
-use Rattle.rules.specs.declared.Verdict.TheVariants.{Accepted, Refused}
+use Rattle.rules.specs.Refusals.{Finding, Verdict}
 use Rattle.rules.specs.Fits.{capacity}
 use Rattle.rules.specs.Plan.{plan_of}
 use Rattle.rules.specs.Grounds.{◌else◌, grounds1to15, answer}
@@ -31,8 +29,8 @@ pub record SendMade (d : Device) (s : List ℕ) (j : ℕ) (g : Given) (n : ℕ) 
 
 -- the same, where no ground was found
 abbrev pub SendMadeIf : Verdict → Device → List ℕ → ℕ → Given → List ℕ → List ℕ → List ℕ → Type 0
-SendMadeIf (Accepted n) d s j g m car x = SendMade d s j g n m car x
-SendMadeIf (Refused n place) d s j g m car x = Unit {0}
+SendMadeIf (Ok n) d s j g m car x = SendMade d s j g n m car x
+SendMadeIf (Err r) d s j g m car x = Unit {0}
 
 -- the answer r is that of a step, and what it says is made is made
 abbrev pub SendOpens : Verdict → Bool → Device → List ℕ → Emitter → Send → List ℕ → List ℕ → List ℕ → Type 0

@@ -3,9 +3,8 @@
 // specs/Opening says which steps no ground refuses.
 #![tactic(auto)]
 
-ghost use Rattle.std.specs.Prelude.{◌≡◌, List, ℕ, ◌≤◌, length};
+ghost use Rattle.std.specs.Prelude.{◌≡◌, List, ℕ, ◌≤◌, length, Ok};
 ghost use Rattle.counting.specs.Search.{pick};
-ghost use Rattle.rules.specs.declared.Finding.TheVariants.{Fine};
 ghost use Rattle.rules.specs.Device.{phases};
 ghost use Rattle.rules.specs.Fits.{Fits};
 ghost use Rattle.rules.specs.Loads.{ground25};
@@ -14,7 +13,7 @@ ghost use Rattle.steps.specs.Begins.{Begins};
 ghost use Rattle.sending.specs.Sent.{given_by, at, giving};
 ghost use Rattle.sendgrounds.specs.Opening.{SendOpens};
 
-use rules::{CountAnswer, Device, EmitterState, Finding, Verdict};
+use rules::{Device, EmitterState, Refusal};
 
 // Grounds 16 to 19 and 27 of a step under an accepted plan of n cells and a profile that 25 does not refuse, and what they leave, as `admit`
 // has it.
@@ -33,8 +32,8 @@ fn admit_step(
     car: &mut [u16; 4096],
     x: &mut [u16],
     literal: bool,
-) -> Verdict
-    requires { Ready d plan.now n marks.now × (pick flushing Fine (ground25 d.subcarriers profile.now) ≡ Fine) × (number ≤ d.subcarriers → number ≤ length given.now) × (length car.old ≡ 4096) × (d.subcarriers ≤ length x.old) }
+) -> Result<u32, Refusal>
+    requires { Ready d plan.now n marks.now × (pick flushing (Ok tt) (ground25 d.subcarriers profile.now) ≡ Ok tt) × (number ≤ d.subcarriers → number ≤ length given.now) × (length car.old ≡ 4096) × (d.subcarriers ≤ length x.old) }
     ensures { (store ds room : List ℕ) → length store ≡ places → length room ≡ width → Begins given.now number ds → SendOpens result literal d plan.now (at state store) (giving (given_by flushing ds) profile.now room) marks.now car.new x.new }
 {
     let ni = n as usize;
@@ -44,7 +43,7 @@ fn admit_step(
     let lines = figure::places_27(literal, m, ni);
     let mut kc = [0u16; 4096];
     let mut flag = [0u8; 4096];
-    match steps::ready(
+    let nd = steps::ready(
         d,
         plan,
         marks,
@@ -57,30 +56,27 @@ fn admit_step(
         car,
         &mut kc[..ni],
         &mut flag[..ni],
-    ) {
-        CountAnswer::Refused(g, place) => Verdict::Refused(g, place),
-        CountAnswer::Count(nd) => {
-            if places < lines {
-                return Verdict::Refused(27, 0);
-            }
-            match sending::fill_in(
-                d,
-                plan,
-                profile,
-                j,
-                flushing,
-                nd as usize,
-                &kc,
-                &flag,
-                number,
-                given,
-                &mut x[..ni],
-            ) {
-                Finding::Ground(g, place) => Verdict::Refused(g, place),
-                Finding::Fine => Verdict::Accepted(n),
-            }
-        }
+    )?;
+    if places < lines {
+        return Err(Refusal {
+            number: 27,
+            place: 0,
+        });
     }
+    sending::fill_in(
+        d,
+        plan,
+        profile,
+        j,
+        flushing,
+        nd as usize,
+        &kc,
+        &flag,
+        number,
+        given,
+        &mut x[..ni],
+    )?;
+    Ok(n)
 }
 
 // Grounds 1 to 15, 25 and 16 to 19 of a step whose store has so many places, and whose symbol so many cells: the first that holds, or N_I. Where
@@ -100,20 +96,13 @@ pub fn admit(
     car: &mut [u16; 4096],
     x: &mut [u16],
     literal: bool,
-) -> Verdict
+) -> Result<u32, Refusal>
     requires { Fits d × (d.depth_max ≤ phases) × (number ≤ d.subcarriers → number ≤ length given.now) × (length marks.old ≡ 4096) × (length car.old ≡ 4096) × (d.subcarriers ≤ length x.old) }
     ensures { (store ds room : List ℕ) → length store ≡ places → length room ≡ width → Begins given.now number ds → SendOpens result literal d plan.now (at state store) (giving (given_by flushing ds) profile.now room) marks.new car.new x.new }
 {
-    match verdicts::study(d, plan, marks) {
-        Verdict::Refused(g, place) => Verdict::Refused(g, place),
-        Verdict::Accepted(n) => {
-            if let Finding::Ground(g, place) = sending::profile_found(d, profile, flushing) {
-                return Verdict::Refused(g, place);
-            }
-            admit_step(
-                d, plan, marks, n, profile, flushing, state, places, width, number, given, car, x,
-                literal,
-            )
-        }
-    }
+    let n = verdicts::study(d, plan, marks)?;
+    sending::profile_found(d, profile, flushing)?;
+    admit_step(
+        d, plan, marks, n, profile, flushing, state, places, width, number, given, car, x, literal,
+    )
 }

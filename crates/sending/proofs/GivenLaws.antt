@@ -2,7 +2,6 @@
 use mathlib.Core.Path.{◌≡◌, refl, sym, ap, ◌∙◌, subst}
 use mathlib.Core.Bool.{Bool, true, false, not}
 use mathlib.Core.List.{List}
-use mathlib.Core.Option.{Option}
 use Prim.Native.Nat.{ℕ, ◌≤◌, ◌<◌}
 use native.Mathlib.Omega.{arith}
 use lib.Dec.{ltb}
@@ -12,8 +11,8 @@ use borrow.Author.Tests.{eq-eqb, ne_eqb}
 use Rattle.counting.specs.Search.{when, lowest, select}
 use Rattle.counting.proofs.Lists.{get_d_tabulate}
 use Rattle.counting.proofs.Searches.{lowest_ext}
-use Rattle.rules.specs.declared.Finding.{Finding}
-use Rattle.rules.specs.declared.Finding.TheVariants.{Fine, Ground}
+use Rattle.rules.specs.Refusals.{Finding, refused_by}
+use Rattle.std.specs.Prelude.{Ok, Option}
 use Rattle.rules.specs.Grounds.{◌else◌, ground?}
 use Rattle.rules.specs.Frame.{Frame, cells, spot, is_data, data_count, flush, symbol, input_cells}
 use Rattle.rules.specs.Loads.{load_limit, cell_load, data_loads, ground19}
@@ -46,16 +45,16 @@ module _ (F : Frame) (w : List ℕ) (j : ℕ) (kc flag ds : List ℕ) (n : ℕ) 
 
 module _ (F : Frame) (w : List ℕ) (j : ℕ) (x : List ℕ) (b : Bool) where
   -- a flush
-  pub by_flush : b ≡ true → x ≡ input_cells F j flush → (ds : List ℕ) → Filled F w j (given_by b ds) Fine x
+  pub by_flush : b ≡ true → x ≡ input_cells F j flush → (ds : List ℕ) → Filled F w j (given_by b ds) (Ok tt) x
   unfolding given_grounds
-  by_flush e h ds = subst (λ (k : Bool). Filled F w j (given_by k ds) Fine x) (sym e) (refl, λ _. h)
+  by_flush e h ds = subst (λ (k : Bool). Filled F w j (given_by k ds) (Ok tt) x) (sym e) (refl, λ _. h)
 
   module _ (e : b ≡ false) (number : ℕ) (given : List ℕ) where
     -- a refusal says nothing of the cells
-    pub bad_number : (number ≡ data_count F j → ⊥) → (ds : List ℕ) → Begins given number ds → Filled F w j (given_by b ds) (Ground 18 0) x
+    pub bad_number : (number ≡ data_count F j → ⊥) → (ds : List ℕ) → Begins given number ds → Filled F w j (given_by b ds) (refused_by 18 0) x
     unfolding given_grounds ground18
     bad_number wrong ds t =
-        subst (λ (k : Bool). Filled F w j (given_by k ds) (Ground 18 0) x) (sym e) (
+        subst (λ (k : Bool). Filled F w j (given_by k ds) (refused_by 18 0) x) (sym e) (
           sym (ap (λ (k : Bool). ground? 18 (when (not k) 0) else ground19 F w j ds) (ne_eqb (length ds) (data_count F j) (λ z. wrong (sym t.number ∙ z)))),
           λ z. let other : ◌≡◌ {A = ℕ} 0 1 = cc in absurd (omega arith),
         )

@@ -2,9 +2,8 @@
 // state of the next step. The cells of store, data and symbol may be of any form.
 #![tactic(auto)]
 
-ghost use Rattle.std.specs.Prelude.{◌≡◌, false, List, ℕ, ◌+◌, ◌%◌, ◌≤◌, ◌<◌, length, get_or};
+ghost use Rattle.std.specs.Prelude.{◌≡◌, false, List, ℕ, ◌+◌, ◌%◌, ◌≤◌, ◌<◌, length, get_or, Ok};
 ghost use Rattle.counting.specs.Search.{pick};
-ghost use Rattle.rules.specs.declared.Finding.TheVariants.{Fine};
 ghost use Rattle.rules.specs.Device.{phases};
 ghost use Rattle.rules.specs.Fits.{Fits};
 ghost use Rattle.rules.specs.Plan.{plan_of};
@@ -15,8 +14,7 @@ ghost use Rattle.steps.specs.Begins.{Begins};
 ghost use Rattle.sending.specs.Sent.{given_by};
 ghost use Rattle.sending.specs.Given.{Filled};
 
-use counting::Found;
-use rules::{Device, EmitterState, Finding};
+use rules::{Device, EmitterState, Refusal};
 
 // The state of the next step: the phase goes up by one.
 pub fn next_state(state: EmitterState) -> EmitterState
@@ -29,12 +27,12 @@ pub fn next_state(state: EmitterState) -> EmitterState
 }
 
 // Ground 25 of what a step is given: a flush is given no profile.
-pub fn profile_found(d: Device, profile: &[u8], flushing: bool) -> Finding
+pub fn profile_found(d: Device, profile: &[u8], flushing: bool) -> Result<(), Refusal>
     requires { Fits d }
-    ensures { result ≡ pick flushing Fine (ground25 d.subcarriers profile.now) }
+    ensures { result ≡ pick flushing (Ok tt) (ground25 d.subcarriers profile.now) }
 {
     if flushing {
-        return Finding::Fine;
+        return Ok(());
     }
     profiles::profile_ground(d, profile)
 }
@@ -50,15 +48,18 @@ fn fill_checked(
     flag: &[u8],
     ds: &[u16],
     x: &mut [u16],
-) -> Finding
-    requires { Fits d × (ground25 d.subcarriers profile.now ≡ Fine) × (length x.old ≡ cells (frame_of d (plan_of plan.now))) × (length x.old ≤ length kc.now) × (length x.old ≤ length flag.now) × ((p : ℕ) → p < length x.old → get_or kc.now p 0 ≡ spot (frame_of d (plan_of plan.now)) p) × Flagged (frame_of d (plan_of plan.now)) phase flag.now × (length ds.now ≡ data_count (frame_of d (plan_of plan.now)) phase) }
+) -> Result<(), Refusal>
+    requires { Fits d × (ground25 d.subcarriers profile.now ≡ Ok tt) × (length x.old ≡ cells (frame_of d (plan_of plan.now))) × (length x.old ≤ length kc.now) × (length x.old ≤ length flag.now) × ((p : ℕ) → p < length x.old → get_or kc.now p 0 ≡ spot (frame_of d (plan_of plan.now)) p) × Flagged (frame_of d (plan_of plan.now)) phase flag.now × (length ds.now ≡ data_count (frame_of d (plan_of plan.now)) phase) }
     ensures found { result ≡ ground19 (frame_of d (plan_of plan.now)) profile.now phase ds.now }
     ensures made { x.new ≡ input_cells (frame_of d (plan_of plan.now)) phase (symbol ds.now) }
 {
     fill::fill_data(x, flag, ds);
     match datalimit::first_over(profile, kc, flag, x, ds) {
-        Found::At(i) => Finding::Ground(19, i),
-        Found::Nothing => Finding::Fine,
+        Some(i) => Err(Refusal {
+            number: 19,
+            place: i,
+        }),
+        None => Ok(()),
     }
 }
 
@@ -77,16 +78,19 @@ pub fn fill_in(
     number: usize,
     given: &[u16],
     x: &mut [u16],
-) -> Finding
-    requires { Fits d × (flushing ≡ false → ground25 d.subcarriers profile.now ≡ Fine) × (length x.old ≡ cells (frame_of d (plan_of plan.now))) × (length x.old ≤ length kc.now) × (length x.old ≤ length flag.now) × ((p : ℕ) → p < length x.old → get_or kc.now p 0 ≡ spot (frame_of d (plan_of plan.now)) p) × Flagged (frame_of d (plan_of plan.now)) phase flag.now × (nd ≡ data_count (frame_of d (plan_of plan.now)) phase) × (number ≤ d.subcarriers → number ≤ length given.now) }
+) -> Result<(), Refusal>
+    requires { Fits d × (flushing ≡ false → ground25 d.subcarriers profile.now ≡ Ok tt) × (length x.old ≡ cells (frame_of d (plan_of plan.now))) × (length x.old ≤ length kc.now) × (length x.old ≤ length flag.now) × ((p : ℕ) → p < length x.old → get_or kc.now p 0 ≡ spot (frame_of d (plan_of plan.now)) p) × Flagged (frame_of d (plan_of plan.now)) phase flag.now × (nd ≡ data_count (frame_of d (plan_of plan.now)) phase) × (number ≤ d.subcarriers → number ≤ length given.now) }
     ensures { (ds : List ℕ) → Begins given.now number ds → Filled (frame_of d (plan_of plan.now)) profile.now phase (given_by flushing ds) result x.new }
 {
     if flushing {
         fill::fill_filler(x, flag);
-        return Finding::Fine;
+        return Ok(());
     }
     if number != nd {
-        return Finding::Ground(18, 0);
+        return Err(Refusal {
+            number: 18,
+            place: 0,
+        });
     }
     fill_checked(d, plan, profile, phase, kc, flag, &given[..nd], x)
 }

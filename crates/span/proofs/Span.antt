@@ -1,8 +1,7 @@
 -- Ground 11 from the runs of excluded subcarriers: what lies between the first run and the last, which touch the ends. Assumes nothing.
 use mathlib.Core.Path.{◌≡◌, sym, ap, ap₂, ◌∙◌}
 use mathlib.Core.List.{List}
-use mathlib.Core.Option
-use mathlib.Core.Option.{Option, some}
+use Rattle.std.specs.Prelude.{Option, Some, unwrap_or}
 use Prim.Native.Nat.{ℕ, zero, suc, ◌+◌, ◌-◌, ◌*◌, ◌≤◌, ◌<◌}
 use native.Mathlib.Numerals.{add-one}
 use native.Mathlib.Omega.{arith}
@@ -36,7 +35,7 @@ module _ (d : Device) (p : Plan) (lo hi : List ℕ) (n : ℕ) (r : EdgeRuns d p 
       let same : n - 1 ≡ i = omega arith in
       ap (λ (j : ℕ). count (excluded p) (get_or lo j 0)) same ∙ count_no (excluded p) (before hi i) (get_or lo i 0) (omega (arith, one.after l)) one.gap
 
-  lowest_is : lowest (active d p) d.subcarriers ≡ some (get_or hi 0 0)
+  lowest_is : lowest (active d p) d.subcarriers ≡ Some (get_or hi 0 0)
   lowest_is =
       let one = r.runs.each 0 (omega (arith, r.two)) in
       let two = r.runs.each 1 r.two in
@@ -56,7 +55,7 @@ module _ (d : Device) (p : Plan) (lo hi : List ℕ) (n : ℕ) (r : EdgeRuns d p 
       rise (suc zero) a b = (r.runs.each 1 b).after (omega arith)
       rise (suc (suc i)) a b = omega (arith, rise (suc i) (omega arith) (omega arith), (r.runs.each (suc i) (omega arith)).some, (r.runs.each (suc (suc i)) b).after (omega arith))
 
-  highest_is : (b : ℕ) → suc b ≡ get_or lo (n - 1) 0 → highest (active d p) d.subcarriers ≡ some b
+  highest_is : (b : ℕ) → suc b ≡ get_or lo (n - 1) 0 → highest (active d p) d.subcarriers ≡ Some b
   highest_is b e =
       let one = r.runs.each (n - 1) (omega (arith, r.two)) in
       let w = edges in
@@ -79,4 +78,4 @@ module _ (d : Device) (p : Plan) (lo hi : List ℕ) (n : ℕ) (r : EdgeRuns d p 
       let size : get_or hi 0 0 + (suc b - get_or hi 0 0) ≡ suc b = omega (arith, w.low) in
       let many : g ≡ count (λ i. excluded p (get_or hi 0 0 + i)) (suc b - get_or hi 0 0) = omega (arith, count_add (excluded p) (get_or hi 0 0) (suc b - get_or hi 0 0), ap (count (excluded p)) (size ∙ back)) in
       ap₂ (λ (x y : ℕ). ltb x (5 * y)) (q ∙ ap (λ (x : ℕ). width x b) f) many
-      ∙ sym (ap₂ (λ (x y : Option ℕ). ltb (width (Option.get_or x 0) (Option.get_or y 0)) (5 * count (λ i. excluded p (Option.get_or x 0 + i)) (suc (Option.get_or y 0) - Option.get_or x 0))) lowest_is (highest_is b back))
+      ∙ sym (ap₂ (λ (x y : Option ℕ). ltb (width (unwrap_or x 0) (unwrap_or y 0)) (5 * count (λ i. excluded p (unwrap_or x 0 + i)) (suc (unwrap_or y 0) - unwrap_or x 0))) lowest_is (highest_is b back))

@@ -19,12 +19,8 @@ fn inner(d: Device, plan: &[u8], lo: &[u16], hi: &[u16], n: usize) -> usize
     ensures { (result + count (excluded (plan_of plan.now)) (get_or hi.now 0 0) ≡ count (excluded (plan_of plan.now)) (get_or lo.now (n - 1) 0)) × (result ≤ 4096) }
 {
     let mut sum: usize = 0;
-    let mut i: usize = 1;
-    while i + 1 < n {
-        let e = wide(lo[i]);
-        let u = wide(hi[i]);
-        sum += u - e;
-        i += 1;
+    for i in 1..n - 1 {
+        sum += wide(hi[i]) - wide(lo[i]);
     }
     sum
 }

@@ -1,8 +1,8 @@
 -- The starred cases of document 01, "Plan A and its neighbours", as one table, the plans at the limits that 02, Req 02 moved, and
 -- the lengths of Plan A's stores that 02, Req 03 names. Proved in proofs/Starred.antt. Assumes nothing.
-use Rattle.std.specs.Prelude.{ℕ, ◌≡◌, true, List, [], ◌∷◌, map}
+use Rattle.std.specs.Prelude.{ℕ, ◌≡◌, true, List, [], ◌∷◌, map, Ok}
 use Rattle.counting.specs.Search.{those}
-use Rattle.rules.specs.declared.Verdict.TheVariants.{Accepted, Refused}
+use Rattle.rules.specs.Refusals.{refused_by}
 use Rattle.rules.specs.Device.{khz50}
 use Rattle.rules.specs.Plan.{Plan, plan_of}
 use Rattle.rules.specs.Roles.{predefined, scattered, rank_of}
@@ -54,7 +54,7 @@ frame_a = frame_of khz50 A
 
 abbrev pub Starred : Type 0
 Starred =
-    (verdict khz50 plan_a ≡ Accepted 425)
+    (verdict khz50 plan_a ≡ Ok 425)
     × (predefined khz50 A.plc ≡ 925 ∷ 937 ∷ 948 ∷ 957 ∷ 994 ∷ 1003 ∷ 1014 ∷ 1026 ∷ [])
     × (scatteredA 0 ≡ 852 ∷ 980 ∷ 1108 ∷ 1236 ∷ [])
     × (scatteredA 125 ≡ 849 ∷ 1105 ∷ 1233 ∷ [])
@@ -62,10 +62,10 @@ Starred =
     × (map (rank_of khz50 A) (852 ∷ 980 ∷ 1236 ∷ []) ≡ 52 ∷ 168 ∷ 420 ∷ [])
     × (map (cell_rank frame_a) (0 ∷ 128 ∷ 256 ∷ 384 ∷ 64 ∷ 32 ∷ 1 ∷ []) ≡ 0 ∷ 1 ∷ 2 ∷ 3 ∷ 4 ∷ 7 ∷ 213 ∷ [])
     × (spot frame_a 1 ≡ 1029) × (held frame_a 48 1 ≡ true) × (sent_phase frame_a 48 1 ≡ 49)
-    × (verdict khz50 [] ≡ Refused 1 0)
-    × (verdict khz50 plan_to1239 ≡ Accepted 424)
-    × (verdict khz50 plan_to1238 ≡ Refused 10 0)
-    × (verdict khz50 plan_at_limits ≡ Accepted 460)
-    × (verdict khz50 plan_to854 ≡ Refused 14 835)
-    × (verdict khz50 plan_to853 ≡ Accepted 421)
+    × (verdict khz50 [] ≡ refused_by 1 0)
+    × (verdict khz50 plan_to1239 ≡ Ok 424)
+    × (verdict khz50 plan_to1238 ≡ refused_by 10 0)
+    × (verdict khz50 plan_at_limits ≡ Ok 460)
+    × (verdict khz50 plan_to854 ≡ refused_by 14 835)
+    × (verdict khz50 plan_to853 ≡ Ok 421)
     × (emitter_places frame_a ≡ 636) × (receiver_places frame_a ≡ 639)

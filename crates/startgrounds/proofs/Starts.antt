@@ -12,14 +12,9 @@ use lib.Seq.{sets, take_at}
 use borrow.Author.Tests.{lt-ltb, le-ltb, le-leb, lt-leb, leb-false, ltb-false}
 use Rattle.counting.specs.Search.{pick, when}
 use Rattle.rules.specs.declared.Device.{Device}
-use Rattle.rules.specs.declared.Finding.{Finding}
-use Rattle.rules.specs.declared.Finding.TheVariants.{Fine, Ground}
-use Rattle.rules.specs.declared.CountAnswer.{CountAnswer}
-use Rattle.rules.specs.declared.CountAnswer.TheVariants as a-count
-use Rattle.rules.specs.declared.Verdict.{Verdict}
-use Rattle.rules.specs.declared.Verdict.TheVariants.{Accepted, Refused}
-use Rattle.rules.specs.declared.StartAnswer.TheVariants as a-start
-use Rattle.rules.specs.declared.ListenAnswer.TheVariants as a-listen
+use Rattle.rules.specs.declared.Refusal.{Refusal}
+use Rattle.rules.specs.Refusals.{Finding, Verdict, CountAnswer, refused_by}
+use Rattle.std.specs.Prelude.{Ok, Err}
 use Rattle.rules.specs.Device.{phases}
 use Rattle.rules.specs.Plan.{plan_of}
 use Rattle.rules.specs.Fits.{Fits, capacity}
@@ -61,7 +56,7 @@ receiver_small m n pos hm hn =
 
 -- what is known of a plan and a phase where none of them holds
 pub record StartInOrder (d : Device) (s : List ℕ) (j n : ℕ) : Type 0 where
-  pub fine : grounds1to15 d s ≡ Fine
+  pub fine : grounds1to15 d s ≡ Ok tt
   pub long : 8 ≤ length s
   pub all : n ≡ cells (frame_of d (plan_of s))
   pub inside : j < phases
@@ -75,20 +70,20 @@ module _ (d : Device) (s : List ℕ) (j : ℕ) where
   unfolding phase_verdict ground16 frame_of early
   early_is = refl
 
-  pub by_plan : (g place : ℕ) → Refused g place ≡ verdict d s → Refused g place ≡ phase_verdict d s j
+  pub by_plan : (g place : ℕ) → refused_by g place ≡ verdict d s → refused_by g place ≡ phase_verdict d s j
   unfolding early
   by_plan g place e = sym (ap (λ (f : Finding). early f (leb phases j)) (first_ground d s g place e)) ∙ early_is
 
-  module _ (n : ℕ) (ok : Accepted n ≡ verdict d s) where
-    pub by_phase : phases ≤ j → Refused 16 0 ≡ phase_verdict d s j
+  module _ (n : ℕ) (ok : Ok n ≡ verdict d s) where
+    pub by_phase : phases ≤ j → refused_by 16 0 ≡ phase_verdict d s j
     unfolding early
     by_phase h = sym (λ i. early (no_ground d s n ok i) (le-leb phases j h i)) ∙ early_is
 
-    pub by_none_of_16 : j < phases → Accepted n ≡ phase_verdict d s j
+    pub by_none_of_16 : j < phases → Ok n ≡ phase_verdict d s j
     unfolding early
-    by_none_of_16 h = ap (λ (k : ℕ). Accepted k) (accepted_cells d s n ok) ∙ sym (λ i. early (no_ground d s n ok i) (lt-leb phases j h i)) ∙ early_is
+    by_none_of_16 h = ap (λ (k : ℕ). Ok k) (accepted_cells d s n ok) ∙ sym (λ i. early (no_ground d s n ok i) (lt-leb phases j h i)) ∙ early_is
 
-  pub in_order : (n : ℕ) → Accepted n ≡ phase_verdict d s j → StartInOrder d s j n
+  pub in_order : (n : ℕ) → Ok n ≡ phase_verdict d s j → StartInOrder d s j n
   unfolding phase_verdict ground16 frame_of
   in_order n e =
       let a = accepted_is (grounds1to15 d s else ground16 (frame_of d (plan_of s)) j) n (cells (frame_of d (plan_of s))) e in
@@ -116,31 +111,31 @@ module _ (by17 by27 : Frame → ℕ) (d : Device) (s : List ℕ) (j : ℕ) (stor
   found_is = sym (else_assoc (grounds1to15 d s) (ground16 (frame_of d (plan_of s)) j) (ground? 17 (when (ltb (length store) need) 0) else ground? 27 (when (ltb (length store) lines) 0)))
 
   -- one law for each return
-  pub by_earlier : (g place : ℕ) → Refused g place ≡ phase_verdict d s j → start_finding by17 by27 d s j store ≡ Ground g place
+  pub by_earlier : (g place : ℕ) → refused_by g place ≡ phase_verdict d s j → start_finding by17 by27 d s j store ≡ refused_by g place
   unfolding phase_verdict found first16
   by_earlier g place e =
       found_is ∙ ap (λ (f : Finding). found f (ltb (length store) need) (ltb (length store) lines)) (refused_is first16 g place (cells (frame_of d (plan_of s))) e)
 
-  module _ (n : ℕ) (ok : Accepted n ≡ phase_verdict d s j) where
-    passed : first16 ≡ Fine
+  module _ (n : ℕ) (ok : Ok n ≡ phase_verdict d s j) where
+    passed : first16 ≡ Ok tt
     unfolding phase_verdict first16
     passed = (accepted_is first16 n (cells (frame_of d (plan_of s))) ok).0
 
-    pub by_store : length store < need → start_finding by17 by27 d s j store ≡ Ground 17 0
+    pub by_store : length store < need → start_finding by17 by27 d s j store ≡ refused_by 17 0
     unfolding found
     by_store h = found_is ∙ (λ i. found (passed i) (lt-ltb (length store) need h i) (ltb (length store) lines))
 
-    pub by_lines : need ≤ length store → length store < lines → start_finding by17 by27 d s j store ≡ Ground 27 0
+    pub by_lines : need ≤ length store → length store < lines → start_finding by17 by27 d s j store ≡ refused_by 27 0
     unfolding found
     by_lines h l = found_is ∙ (λ i. found (passed i) (le-ltb (length store) need h i) (lt-ltb (length store) lines l i))
 
-    pub by_none : need ≤ length store → lines ≤ length store → start_finding by17 by27 d s j store ≡ Fine
+    pub by_none : need ≤ length store → lines ≤ length store → start_finding by17 by27 d s j store ≡ Ok tt
     unfolding found
     by_none h l = found_is ∙ (λ i. found (passed i) (le-ltb (length store) need h i) (le-ltb (length store) lines l i))
 
   -- what is known where nothing is found
-  nothing_found : start_finding by17 by27 d s j store ≡ Fine
-      → (Accepted (cells (frame_of d (plan_of s))) ≡ phase_verdict d s j) × (need ≤ length store) × (lines ≤ length store)
+  nothing_found : start_finding by17 by27 d s j store ≡ Ok tt
+      → (Ok (cells (frame_of d (plan_of s))) ≡ phase_verdict d s j) × (need ≤ length store) × (lines ≤ length store)
   unfolding found first16 phase_verdict
   nothing_found e =
       let short : Finding = ground? 17 (when (ltb (length store) need) 0) in
@@ -154,14 +149,14 @@ module _ (by17 by27 : Frame → ℕ) (d : Device) (s : List ℕ) (j : ℕ) (stor
 
 -- ---- what the start then answers and leaves
 
--- one answer where nothing is found, else one by number and place
-after : {A : Type 0} → A → (ℕ → ℕ → A) → Finding → A
-after x r f = elim f [ Fine ↦ x | Ground n place ↦ r n place ]
+-- one answer where nothing is found, else one by the refusal
+after : {A : Type 0} → A → (Refusal → A) → Finding → A
+after x y f = elim f [ Ok _ ↦ x | Err r ↦ y r ]
 
-after_else : {A : Type 0} (x : A) (r : ℕ → ℕ → A) (f g : Finding) → after x r (f else g) ≡ after (after x r g) r f
+after_else : {A : Type 0} (x : A) (y : Refusal → A) (f g : Finding) → after x y (f else g) ≡ after (after x y g) y f
 unfolding after
-after_else x r Fine g = refl
-after_else x r (Ground n place) g = refl
+after_else x y (Ok tt) g = refl
+after_else x y (Err r) g = refl
 
 -- ---- a fresh emitter
 
@@ -170,29 +165,29 @@ module _ (literal : Bool) (d : Device) (s : List ℕ) (j : ℕ) (store : List �
   finds = start_finding (places17 literal) (places27 literal) d s j store
 
   -- from what is found to the verdict
-  pub emitter_refused : (g place : ℕ) → finds ≡ Ground g place → Refused g place ≡ emitter_verdict literal d s j store
+  pub emitter_refused : (g place : ℕ) → finds ≡ refused_by g place → refused_by g place ≡ emitter_verdict literal d s j store
   unfolding emitter_verdict
   emitter_refused g place e = sym (ap (λ (f : Finding). answer f (cells (frame_of d (plan_of s)))) e)
 
-  pub emitter_accepted : (n : ℕ) → n ≡ cells (frame_of d (plan_of s)) → finds ≡ Fine → Accepted n ≡ emitter_verdict literal d s j store
+  pub emitter_accepted : (n : ℕ) → n ≡ cells (frame_of d (plan_of s)) → finds ≡ Ok tt → Ok n ≡ emitter_verdict literal d s j store
   unfolding emitter_verdict
-  emitter_accepted n en e = ap (λ (k : ℕ). Accepted k) en ∙ sym (ap (λ (f : Finding). answer f (cells (frame_of d (plan_of s)))) e)
+  emitter_accepted n en e = ap (λ (k : ℕ). Ok k) en ∙ sym (ap (λ (f : Finding). answer f (cells (frame_of d (plan_of s)))) e)
 
   -- and back
-  verdict_fine : (n : ℕ) → Accepted n ≡ emitter_verdict literal d s j store → (finds ≡ Fine) × (n ≡ cells (frame_of d (plan_of s)))
+  verdict_fine : (n : ℕ) → Ok n ≡ emitter_verdict literal d s j store → (finds ≡ Ok tt) × (n ≡ cells (frame_of d (plan_of s)))
   unfolding emitter_verdict
   verdict_fine n e = accepted_is finds n (cells (frame_of d (plan_of s))) e
 
-  verdict_ground : (g place : ℕ) → Refused g place ≡ emitter_verdict literal d s j store → finds ≡ Ground g place
+  verdict_ground : (g place : ℕ) → refused_by g place ≡ emitter_verdict literal d s j store → finds ≡ refused_by g place
   unfolding emitter_verdict
   verdict_ground g place e = refused_is finds g place (cells (frame_of d (plan_of s))) e
 
-  pub admitted : (n : ℕ) → Accepted n ≡ emitter_verdict literal d s j store
+  pub admitted : (n : ℕ) → Ok n ≡ emitter_verdict literal d s j store
       → StartInOrder d s j n × (places17 literal (frame_of d (plan_of s)) ≤ length store) × (places27 literal (frame_of d (plan_of s)) ≤ length store)
   admitted n e =
       let v = verdict_fine n e in
       let known = nothing_found (places17 literal) (places27 literal) d s j store v.0 in
-      (in_order d s j n (ap (λ (k : ℕ). Accepted k) v.1 ∙ known.0), known.1, known.2)
+      (in_order d s j n (ap (λ (k : ℕ). Ok k) v.1 ∙ known.0), known.1, known.2)
 
 -- the store that either emitter's start makes
 abbrev pub made_store : Bool → Frame → ℕ → List ℕ → List ℕ
@@ -200,7 +195,7 @@ made_store literal F j store = pick literal (fresh_literal F j store) (fresh_sto
 
 module _ (d : Device) (s : List ℕ) (j : ℕ) (store : List ℕ) where
   start_after : Bool → Finding → Starting
-  start_after literal = after (starts (a-start.Started (record { phase = j })) (made_store literal (frame_of d (plan_of s)) j store)) (λ n place. starts (a-start.Refused n place) store)
+  start_after literal = after (starts (Ok (record { phase = j })) (made_store literal (frame_of d (plan_of s)) j store)) (λ r. starts (Err r) store)
 
   start_is : (literal : Bool) → start_after literal (finds literal d s j store) ≡ start_of literal d s j store
   unfolding start_step first.frame_start figure_start_step second.frame_start start_finding start_after after
@@ -212,31 +207,31 @@ module _ (d : Device) (s : List ℕ) (j : ℕ) (store : List ℕ) where
       ∙ after_else _ _ (grounds1to15 d s) (figure_start_grounds (frame_of d (plan_of s)) j store)
 
 module _ (literal : Bool) (d : Device) (s : List ℕ) (j : ℕ) (store : List ℕ) where
-  pub start_refused : (g place : ℕ) → Refused g place ≡ emitter_verdict literal d s j store → starts (a-start.Refused g place) store ≡ start_of literal d s j store
+  pub start_refused : (g place : ℕ) → refused_by g place ≡ emitter_verdict literal d s j store → starts (refused_by g place) store ≡ start_of literal d s j store
   unfolding start_after after
   start_refused g place e = sym (ap (start_after d s j store literal) (verdict_ground literal d s j store g place e)) ∙ start_is d s j store literal
 
-  pub started : (n : ℕ) → Accepted n ≡ emitter_verdict literal d s j store → (st : List ℕ) → st ≡ made_store literal (frame_of d (plan_of s)) j store
-      → starts (a-start.Started (record { phase = j })) st ≡ start_of literal d s j store
+  pub started : (n : ℕ) → Ok n ≡ emitter_verdict literal d s j store → (st : List ℕ) → st ≡ made_store literal (frame_of d (plan_of s)) j store
+      → starts (Ok (record { phase = j })) st ≡ start_of literal d s j store
   unfolding start_after after
   started n e st made =
-      ap (starts (a-start.Started (record { phase = j }))) made ∙ sym (ap (start_after d s j store literal) (verdict_fine literal d s j store n e).0) ∙ start_is d s j store literal
+      ap (starts (Ok (record { phase = j }))) made ∙ sym (ap (start_after d s j store literal) (verdict_fine literal d s j store n e).0) ∙ start_is d s j store literal
 
 -- ---- a fresh receiver
 
 -- what an answer says of its finding
 counted : Finding → ℕ → CountAnswer
-counted f n = after (a-count.Count n) a-count.Refused f
+counted f n = after (Ok n) Err f
 
-count_is : (f : Finding) (n m : ℕ) → a-count.Count n ≡ counted f m → (f ≡ Fine) × (n ≡ m)
+count_is : (f : Finding) (n m : ℕ) → Ok n ≡ counted f m → (f ≡ Ok tt) × (n ≡ m)
 unfolding counted after
-count_is Fine n m e = (refl, cc)
-count_is (Ground g k) n m e = let z : ◌≡◌ {A = ℕ} 0 1 = cc in absurd (omega arith)
+count_is (Ok tt) n m e = (refl, cc)
+count_is (Err r) n m e = let z : ◌≡◌ {A = ℕ} 0 1 = cc in absurd (omega arith)
 
-ground_is : (f : Finding) (g k m : ℕ) → a-count.Refused g k ≡ counted f m → f ≡ Ground g k
+ground_is : (f : Finding) (g k m : ℕ) → refused_by g k ≡ counted f m → f ≡ refused_by g k
 unfolding counted after
-ground_is Fine g k m e = let z : ◌≡◌ {A = ℕ} 0 1 = cc in absurd (omega arith)
-ground_is (Ground a b) g k m e = cc
+ground_is (Ok tt) g k m e = let z : ◌≡◌ {A = ℕ} 0 1 = cc in absurd (omega arith)
+ground_is (Err r) g k m e = cc
 
 module _ (d : Device) (s : List ℕ) (j : ℕ) (store : List ℕ) where
   answer_is : receiver_answer d s j store ≡ counted (start_finding receiver_places none d s j store) (receiver_places (frame_of d (plan_of s)))
@@ -244,25 +239,25 @@ module _ (d : Device) (s : List ℕ) (j : ℕ) (store : List ℕ) where
   answer_is = refl
 
   -- from what is found to the answer
-  pub receiver_refused : (g place : ℕ) → start_finding receiver_places none d s j store ≡ Ground g place → a-count.Refused g place ≡ receiver_answer d s j store
+  pub receiver_refused : (g place : ℕ) → start_finding receiver_places none d s j store ≡ refused_by g place → refused_by g place ≡ receiver_answer d s j store
   unfolding counted after
   receiver_refused g place e = sym (answer_is ∙ ap (λ (f : Finding). counted f (receiver_places (frame_of d (plan_of s)))) e)
 
-  pub receiver_counted : (n : ℕ) → n ≡ receiver_places (frame_of d (plan_of s)) → start_finding receiver_places none d s j store ≡ Fine → a-count.Count n ≡ receiver_answer d s j store
+  pub receiver_counted : (n : ℕ) → n ≡ receiver_places (frame_of d (plan_of s)) → start_finding receiver_places none d s j store ≡ Ok tt → Ok n ≡ receiver_answer d s j store
   unfolding counted after
-  receiver_counted n en e = ap (λ (k : ℕ). a-count.Count k) en ∙ sym (answer_is ∙ ap (λ (f : Finding). counted f (receiver_places (frame_of d (plan_of s)))) e)
+  receiver_counted n en e = ap (λ (k : ℕ). Ok k) en ∙ sym (answer_is ∙ ap (λ (f : Finding). counted f (receiver_places (frame_of d (plan_of s)))) e)
 
   -- and back
-  answer_fine : (n : ℕ) → a-count.Count n ≡ receiver_answer d s j store → (start_finding receiver_places none d s j store ≡ Fine) × (n ≡ receiver_places (frame_of d (plan_of s)))
+  answer_fine : (n : ℕ) → Ok n ≡ receiver_answer d s j store → (start_finding receiver_places none d s j store ≡ Ok tt) × (n ≡ receiver_places (frame_of d (plan_of s)))
   answer_fine n e = count_is (start_finding receiver_places none d s j store) n (receiver_places (frame_of d (plan_of s))) (e ∙ answer_is)
 
-  pub places_fit : (n : ℕ) → a-count.Count n ≡ receiver_answer d s j store → n ≤ length store
+  pub places_fit : (n : ℕ) → Ok n ≡ receiver_answer d s j store → n ≤ length store
   places_fit n e =
       let v = answer_fine n e in
       omega (arith, v.1, (nothing_found receiver_places none d s j store v.0).1)
 
   listen_after : Finding → Listening
-  listen_after = after (listens (a-listen.Started (record { phase = j; heard = 0 })) (filler_store (frame_of d (plan_of s)) store)) (λ n place. listens (a-listen.Refused n place) store)
+  listen_after = after (listens (Ok (record { phase = j; heard = 0 })) (filler_store (frame_of d (plan_of s)) store)) (λ r. listens (Err r) store)
 
   listen_is : listen_after (start_finding receiver_places none d s j store) ≡ listen_step d s j store
   unfolding listen_step frame_listen start_finding listen_after after
@@ -270,17 +265,17 @@ module _ (d : Device) (s : List ℕ) (j : ℕ) (store : List ℕ) where
       ap (λ (f : Finding). listen_after (grounds1to15 d s else f)) (first_start (frame_of d (plan_of s)) (receiver_places (frame_of d (plan_of s))) j store)
       ∙ after_else _ _ (grounds1to15 d s) (start_grounds (frame_of d (plan_of s)) (receiver_places (frame_of d (plan_of s))) j store)
 
-  pub listen_refused : (g place : ℕ) → a-count.Refused g place ≡ receiver_answer d s j store → listens (a-listen.Refused g place) store ≡ listen_step d s j store
+  pub listen_refused : (g place : ℕ) → refused_by g place ≡ receiver_answer d s j store → listens (refused_by g place) store ≡ listen_step d s j store
   unfolding listen_after after
   listen_refused g place e =
       sym (ap listen_after (ground_is (start_finding receiver_places none d s j store) g place (receiver_places (frame_of d (plan_of s))) (e ∙ answer_is))) ∙ listen_is
 
-  pub listening : (n : ℕ) → a-count.Count n ≡ receiver_answer d s j store → (st : List ℕ) → st ≡ sets store 0 (replicate n filler)
-      → listens (a-listen.Started (record { phase = j; heard = 0 })) st ≡ listen_step d s j store
+  pub listening : (n : ℕ) → Ok n ≡ receiver_answer d s j store → (st : List ℕ) → st ≡ sets store 0 (replicate n filler)
+      → listens (Ok (record { phase = j; heard = 0 })) st ≡ listen_step d s j store
   unfolding listen_after after
   listening n e st made =
       let v = answer_fine n e in
-      ap (listens (a-listen.Started (record { phase = j; heard = 0 }))) (made ∙ all_filler (frame_of d (plan_of s)) store n v.1) ∙ sym (ap listen_after v.0) ∙ listen_is
+      ap (listens (Ok (record { phase = j; heard = 0 }))) (made ∙ all_filler (frame_of d (plan_of s)) store n v.1) ∙ sym (ap listen_after v.0) ∙ listen_is
 
 -- ---- what an emitter's places are made from, once the first n places hold the subcarriers of the n cells
 

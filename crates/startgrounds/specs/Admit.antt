@@ -1,12 +1,7 @@
 -- What a fresh start finds before it fills the store, and what is then known. Assumes nothing.
-use Rattle.std.specs.Prelude.{List, Bool, ℕ, take}
+use Rattle.std.specs.Prelude.{List, Bool, ℕ, take, Ok, Err}
 use Rattle.rules.specs.declared.Device.{Device}
-use Rattle.rules.specs.declared.Finding.{Finding}
-use Rattle.rules.specs.declared.Finding.TheVariants.{Fine, Ground}
-use Rattle.rules.specs.declared.CountAnswer.{CountAnswer}
-use Rattle.rules.specs.declared.CountAnswer.TheVariants as a-count
-use Rattle.rules.specs.declared.Verdict.{Verdict}
-use Rattle.rules.specs.declared.Verdict.TheVariants.{Accepted, Refused}
+use Rattle.rules.specs.Refusals.{Finding, Verdict, CountAnswer}
 use Rattle.rules.specs.Plan.{plan_of}
 use Rattle.rules.specs.Grounds.{◌else◌, grounds1to15, answer}
 use Rattle.rules.specs.Frame.{Frame, frame_of, cells}
@@ -35,11 +30,11 @@ none F = 0
 unfoldable pub receiver_answer : Device → List ℕ → ℕ → List ℕ → CountAnswer
 receiver_answer d s j store =
     elim (start_finding receiver_places none d s j store) [
-      | Fine ↦ a-count.Count (receiver_places (frame_of d (plan_of s)))
-      | Ground n place ↦ a-count.Refused n place
+      | Ok _ ↦ Ok (receiver_places (frame_of d (plan_of s)))
+      | Err r ↦ Err r
     ]
 
 -- where none holds, the first N_I places of kc hold the subcarriers of the cells
 abbrev pub SpottedIf : Verdict → Device → List ℕ → List ℕ → Type 0
-SpottedIf (Accepted n) d s kc = Spotted d s (take n kc)
-SpottedIf (Refused g place) d s kc = Unit {0}
+SpottedIf (Ok n) d s kc = Spotted d s (take n kc)
+SpottedIf (Err r) d s kc = Unit {0}

@@ -9,26 +9,25 @@ ghost use Rattle.rules.specs.Fits.{Fits, capacity};
 ghost use Rattle.verdicts.specs.Studied.{StudiedIf};
 ghost use Rattle.startgrounds.specs.Admit.{phase_verdict, emitter_verdict, receiver_answer, SpottedIf};
 
-use rules::{CountAnswer, Device, Verdict};
+use rules::{Device, Refusal};
 
 // Phases are 0 to 127.
 const PHASES: usize = 128;
 
 // Grounds 1 to 16 of a start: the first that holds, or N_I. Where none holds, the lent array has the marks.
-fn admit(d: Device, plan: &[u8], phase: u32, marks: &mut [u16; 4096]) -> Verdict
+fn admit(d: Device, plan: &[u8], phase: u32, marks: &mut [u16; 4096]) -> Result<u32, Refusal>
     requires { Fits d × (length marks.old ≡ capacity) }
     ensures answer { result ≡ phase_verdict d plan.now phase }
     ensures studied { StudiedIf result d plan.now marks.new }
 {
-    match verdicts::study(d, plan, marks) {
-        Verdict::Refused(g, place) => Verdict::Refused(g, place),
-        Verdict::Accepted(n) => {
-            if PHASES <= phase as usize {
-                return Verdict::Refused(16, 0);
-            }
-            Verdict::Accepted(n)
-        }
+    let n = verdicts::study(d, plan, marks)?;
+    if PHASES <= phase as usize {
+        return Err(Refusal {
+            number: 16,
+            place: 0,
+        });
     }
+    Ok(n)
 }
 
 // Grounds 1 to 17 of a fresh emitter whose store has so many places: the first that holds, or N_I. Where the store is literal, its places are
@@ -40,46 +39,46 @@ pub fn admit_emitter(
     places: usize,
     kc: &mut [u16],
     literal: bool,
-) -> Verdict
+) -> Result<u32, Refusal>
     requires { Fits d × (d.depth_max ≤ phases) × (length kc.old ≡ capacity) }
     ensures answer { (s : List ℕ) → length s ≡ places → result ≡ emitter_verdict literal d plan.now phase s }
     ensures spotted { SpottedIf result d plan.now kc.new }
 {
     let mut marks = [0u16; 4096];
-    match admit(d, plan, phase, &mut marks) {
-        Verdict::Refused(g, place) => Verdict::Refused(g, place),
-        Verdict::Accepted(n) => {
-            let ni = n as usize;
-            let m = records::number_at(plan, 6);
-            if places < figure::places_17(literal, m, ni) {
-                return Verdict::Refused(17, 0);
-            }
-            if places < figure::places_27(literal, m, ni) {
-                return Verdict::Refused(27, 0);
-            }
-            let mut car = [0u16; 4096];
-            spots::spots(d, plan, &marks, &mut car, &mut kc[..ni]);
-            Verdict::Accepted(n)
-        }
+    let n = admit(d, plan, phase, &mut marks)?;
+    let ni = n as usize;
+    let m = records::number_at(plan, 6);
+    if places < figure::places_17(literal, m, ni) {
+        return Err(Refusal {
+            number: 17,
+            place: 0,
+        });
     }
+    if places < figure::places_27(literal, m, ni) {
+        return Err(Refusal {
+            number: 27,
+            place: 0,
+        });
+    }
+    let mut car = [0u16; 4096];
+    spots::spots(d, plan, &marks, &mut car, &mut kc[..ni]);
+    Ok(n)
 }
 
 // Grounds 1 to 17 of a fresh receiver whose store has so many places: the first that holds, or how many of them it fills.
-pub fn admit_receiver(d: Device, plan: &[u8], phase: u32, places: usize) -> CountAnswer
+pub fn admit_receiver(d: Device, plan: &[u8], phase: u32, places: usize) -> Result<u32, Refusal>
     requires { Fits d × (d.depth_max ≤ phases) }
     ensures { (s : List ℕ) → length s ≡ places → result ≡ receiver_answer d plan.now phase s }
 {
     let mut marks = [0u16; 4096];
-    match admit(d, plan, phase, &mut marks) {
-        Verdict::Refused(g, place) => CountAnswer::Refused(g, place),
-        Verdict::Accepted(n) => {
-            let m = records::number_at(plan, 6);
-            let need = places::receiver_places(m, n as usize);
-            if places < need {
-                return CountAnswer::Refused(17, 0);
-            }
-            let number = need as u32;
-            CountAnswer::Count(number)
-        }
+    let n = admit(d, plan, phase, &mut marks)?;
+    let m = records::number_at(plan, 6);
+    let need = places::receiver_places(m, n as usize);
+    if places < need {
+        return Err(Refusal {
+            number: 17,
+            place: 0,
+        });
     }
+    Ok(need as u32)
 }

@@ -10,11 +10,9 @@ use lib.ListN.{length}
 use borrow.Author.Tests.{lt-ltb, le-ltb, le-leb, lt-leb, eq-eqb, ne_eqb}
 use Rattle.counting.specs.Search.{when}
 use Rattle.counting.proofs.Bools.{decide, decide_eq}
-use Rattle.rules.specs.declared.Finding.{Finding}
-use Rattle.rules.specs.declared.Finding.TheVariants.{Fine, Ground}
+use Rattle.rules.specs.Refusals.{Finding, CountAnswer, refused_by}
+use Rattle.std.specs.Prelude.{Ok, Err}
 use Rattle.rules.specs.Grounds.{◌else◌, ground?}
-use Rattle.rules.specs.declared.CountAnswer.{CountAnswer}
-use Rattle.rules.specs.declared.CountAnswer.TheVariants.{Count, Refused}
 use Rattle.rules.specs.Frame.{Frame, data_count}
 use Rattle.rules.specs.Steps.{ground16, short_store, ground17}
 use Rattle.steps.specs.Ready.{ready_answer}
@@ -24,21 +22,21 @@ module _ (F : Frame) (j places : ℕ) (s room : List ℕ) where
   tested : Bool → Bool → Bool → Finding
   tested a c d = ground? 16 (when a 0) else ground? 17 (when (c || not d) 0)
 
-  pub bad_phase : F.phases ≤ j → Ground 16 0 ≡ (ground16 F j else ground17 F places s room)
+  pub bad_phase : F.phases ≤ j → refused_by 16 0 ≡ (ground16 F j else ground17 F places s room)
   unfolding ground16 ground17 tested
   bad_phase h = sym (ap (λ (t : Bool). tested t (short_store places s) (eqb (length room) F.width)) (le-leb F.phases j h))
 
   module _ (hp : j < F.phases) where
-    pub bad_store : length s < places → Ground 17 0 ≡ (ground16 F j else ground17 F places s room)
+    pub bad_store : length s < places → refused_by 17 0 ≡ (ground16 F j else ground17 F places s room)
     unfolding ground16 ground17 short_store tested
     bad_store h = sym (λ i. tested (lt-leb F.phases j hp i) (lt-ltb (length s) places h i) (eqb (length room) F.width))
 
     module _ (hs : places ≤ length s) where
-      pub bad_room : (length room ≡ F.width → ⊥) → Ground 17 0 ≡ (ground16 F j else ground17 F places s room)
+      pub bad_room : (length room ≡ F.width → ⊥) → refused_by 17 0 ≡ (ground16 F j else ground17 F places s room)
       unfolding ground16 ground17 short_store tested
       bad_room h = sym (λ i. tested (lt-leb F.phases j hp i) (le-ltb (length s) places hs i) (ne_eqb (length room) F.width h i))
 
-      pub all_lent : length room ≡ F.width → Fine ≡ (ground16 F j else ground17 F places s room)
+      pub all_lent : length room ≡ F.width → Ok tt ≡ (ground16 F j else ground17 F places s room)
       unfolding ground16 ground17 short_store tested
       all_lent h = sym (λ i. tested (lt-leb F.phases j hp i) (le-ltb (length s) places hs i) (eq-eqb (length room) F.width h i))
 
@@ -49,11 +47,11 @@ pub record Lent (F : Frame) (j places : ℕ) (s room : List ℕ) : Type 0 where
   pub whole : length room ≡ F.width
 
 -- a finding is not both a ground and none
-pub no_ground : (n place : ℕ) (f : Finding) → Ground n place ≡ f → Fine ≡ f → ⊥
+pub no_ground : (n place : ℕ) (f : Finding) → refused_by n place ≡ f → Ok tt ≡ f → ⊥
 no_ground n place f g h = let z : ◌≡◌ {A = ℕ} 0 1 = cc in absurd (omega arith)
 
-module _ (F : Frame) (j places : ℕ) (s room : List ℕ) (ok : Fine ≡ (ground16 F j else ground17 F places s room)) where
-  kept : (n place : ℕ) → Ground n place ≡ (ground16 F j else ground17 F places s room) → ⊥
+module _ (F : Frame) (j places : ℕ) (s room : List ℕ) (ok : (Ok tt) ≡ (ground16 F j else ground17 F places s room)) where
+  kept : (n place : ℕ) → refused_by n place ≡ (ground16 F j else ground17 F places s room) → ⊥
   kept n place g = no_ground n place (ground16 F j else ground17 F places s room) g ok
 
   pub lent : Lent F j places s room
@@ -68,31 +66,31 @@ module _ (F : Frame) (j places : ℕ) (s room : List ℕ) (ok : Fine ≡ (ground
 
 -- an answer as a function of the finding, with the count k where there is none
 abbrev pub told : ℕ → Finding → CountAnswer
-told k f = elim f [ Fine ↦ Count k | Ground n place ↦ Refused n place ]
+told k f = elim f [ Ok _ ↦ Ok k | Err r ↦ Err r ]
 
 -- a finding told as a count is none, told as a refusal is that ground
-pub told_count_lem : (k n : ℕ) (f : Finding) → Count n ≡ told k f → (Fine ≡ f) × (n ≡ k)
-told_count_lem k n Fine e = (refl, cc)
-told_count_lem k n (Ground g place) e = let z : ◌≡◌ {A = ℕ} 0 1 = cc in absurd (omega arith)
+pub told_count_lem : (k n : ℕ) (f : Finding) → Ok n ≡ told k f → (Ok tt ≡ f) × (n ≡ k)
+told_count_lem k n (Ok tt) e = (refl, cc)
+told_count_lem k n (Err r) e = let z : ◌≡◌ {A = ℕ} 0 1 = cc in absurd (omega arith)
 
-pub told_refused : (k n place : ℕ) (f : Finding) → Refused n place ≡ told k f → Ground n place ≡ f
-told_refused k n place Fine e = let z : ◌≡◌ {A = ℕ} 0 1 = cc in absurd (omega arith)
-told_refused k n place (Ground g at) e = cc
+pub told_refused : (k n place : ℕ) (f : Finding) → refused_by n place ≡ told k f → refused_by n place ≡ f
+told_refused k n place (Ok tt) e = let z : ◌≡◌ {A = ℕ} 0 1 = cc in absurd (omega arith)
+told_refused k n place (Err r) e = cc
 
 -- what the answer of grounds 16 and 17 tells
 module _ (F : Frame) (phase places : ℕ) (s y : List ℕ) (j : ℕ) where
-  pub ready_count : (n : ℕ) → Count n ≡ ready_answer F phase places s y j → (Fine ≡ (ground16 F phase else ground17 F places s y)) × (n ≡ data_count F j)
+  pub ready_count : (n : ℕ) → Ok n ≡ ready_answer F phase places s y j → (Ok tt ≡ (ground16 F phase else ground17 F places s y)) × (n ≡ data_count F j)
   unfolding ready_answer
   ready_count n e = told_count_lem (data_count F j) n (ground16 F phase else ground17 F places s y) e
 
-  pub ready_refused : (n place : ℕ) → Refused n place ≡ ready_answer F phase places s y j → Ground n place ≡ (ground16 F phase else ground17 F places s y)
+  pub ready_refused : (n place : ℕ) → refused_by n place ≡ ready_answer F phase places s y j → refused_by n place ≡ (ground16 F phase else ground17 F places s y)
   unfolding ready_answer
   ready_refused n place e = told_refused (data_count F j) n place (ground16 F phase else ground17 F places s y) e
 
-  pub count_ready : Fine ≡ (ground16 F phase else ground17 F places s y) → Count (data_count F j) ≡ ready_answer F phase places s y j
+  pub count_ready : (Ok tt) ≡ (ground16 F phase else ground17 F places s y) → Ok (data_count F j) ≡ ready_answer F phase places s y j
   unfolding ready_answer
   count_ready h = ap (told (data_count F j)) h
 
-  pub refused_ready : (n place : ℕ) → Ground n place ≡ (ground16 F phase else ground17 F places s y) → Refused n place ≡ ready_answer F phase places s y j
+  pub refused_ready : (n place : ℕ) → refused_by n place ≡ (ground16 F phase else ground17 F places s y) → refused_by n place ≡ ready_answer F phase places s y j
   unfolding ready_answer
   refused_ready n place h = ap (told (data_count F j)) h

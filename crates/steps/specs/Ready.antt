@@ -1,13 +1,11 @@
 -- What the steps rely on once a plan is accepted. Assumes nothing.
-use Rattle.std.specs.Prelude.{◌≡◌, List, ℕ, ◌≤◌, ◌<◌, get_or}
+use Rattle.std.specs.Prelude.{◌≡◌, List, ℕ, ◌≤◌, ◌<◌, get_or, Ok, Err}
 use Rattle.rules.specs.declared.Device.{Device}
-use Rattle.rules.specs.declared.Finding.TheVariants.{Fine, Ground}
+use Rattle.rules.specs.Refusals.{CountAnswer}
 use Rattle.rules.specs.Device.{phases}
 use Rattle.rules.specs.Fits.{Fits}
 use Rattle.rules.specs.Plan.{plan_of}
 use Rattle.counting.specs.Search.{bit}
-use Rattle.rules.specs.declared.CountAnswer.{CountAnswer}
-use Rattle.rules.specs.declared.CountAnswer.TheVariants.{Count, Refused}
 use Rattle.rules.specs.Grounds.{grounds1to15, ◌else◌}
 use Rattle.rules.specs.Frame.{Frame, frame_of, cells, carrier, spot, held, data_count}
 use Rattle.rules.specs.Steps.{ground16, ground17}
@@ -16,7 +14,7 @@ use Rattle.verdicts.specs.Studied.{Studied}
 -- the device fits, no ground of 1 to 15 refuses the plan, its depth is 1 to 128, n is N_I, and m holds the marks
 pub record Ready (d : Device) (s : List ℕ) (n : ℕ) (m : List ℕ) : Type 0 where
   pub fits : Fits d
-  pub fine : grounds1to15 d s ≡ Fine
+  pub fine : grounds1to15 d s ≡ Ok tt
   pub deep : 0 < (plan_of s).depth
   pub shallow : (plan_of s).depth ≤ phases
   pub all : n ≡ cells (frame_of d (plan_of s))
@@ -24,7 +22,7 @@ pub record Ready (d : Device) (s : List ℕ) (n : ℕ) (m : List ℕ) : Type 0 w
 
 -- the first of grounds 16 and 17 of what a step is given, whose store needs so many places, or N_D at phase j
 unfoldable pub ready_answer : Frame → ℕ → ℕ → List ℕ → List ℕ → ℕ → CountAnswer
-ready_answer F phase places s y j = elim (ground16 F phase else ground17 F places s y) [ Fine ↦ Count (data_count F j) | Ground n place ↦ Refused n place ]
+ready_answer F phase places s y j = elim (ground16 F phase else ground17 F places s y) [ Ok _ ↦ Ok (data_count F j) | Err r ↦ Err r ]
 
 -- what a step has made of a plan for the input symbol at phase j: the subcarriers by rank and by cell, and the flags of the placeholders
 pub record Made (F : Frame) (j : ℕ) (car kc flag : List ℕ) : Type 0 where
@@ -34,5 +32,5 @@ pub record Made (F : Frame) (j : ℕ) (car kc flag : List ℕ) : Type 0 where
 
 -- the same, where no ground was found
 abbrev pub MadeIf : CountAnswer → Frame → ℕ → List ℕ → List ℕ → List ℕ → Type 0
-MadeIf (Count n) F j car kc flag = Made F j car kc flag
-MadeIf (Refused n place) F j car kc flag = Unit {0}
+MadeIf (Ok n) F j car kc flag = Made F j car kc flag
+MadeIf (Err r) F j car kc flag = Unit {0}

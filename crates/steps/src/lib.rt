@@ -10,7 +10,7 @@ ghost use Rattle.rules.specs.Frame.{frame_of};
 ghost use Rattle.rules.specs.Steps.{ground16, ground17};
 ghost use Rattle.steps.specs.Ready.{Ready, ready_answer, MadeIf};
 
-use rules::{CountAnswer, Device, Finding};
+use rules::{Device, Refusal};
 
 // Phases are 0 to 127.
 const PHASES: usize = 128;
@@ -24,19 +24,28 @@ fn lent_grounds(
     need: usize,
     places: usize,
     width: usize,
-) -> Finding
+) -> Result<(), Refusal>
     ensures { (s y : List ℕ) → length s ≡ places → length y ≡ width → result ≡ (ground16 (frame_of d (plan_of plan.now)) phase else ground17 (frame_of d (plan_of plan.now)) need s y) }
 {
     if PHASES <= phase as usize {
-        return Finding::Ground(16, 0);
+        return Err(Refusal {
+            number: 16,
+            place: 0,
+        });
     }
     if places < need {
-        return Finding::Ground(17, 0);
+        return Err(Refusal {
+            number: 17,
+            place: 0,
+        });
     }
     if width != d.subcarriers {
-        return Finding::Ground(17, 0);
+        return Err(Refusal {
+            number: 17,
+            place: 0,
+        });
     }
-    Finding::Fine
+    Ok(())
 }
 
 // Grounds 16 and 17 under an accepted plan, for a store that needs `need` places, and, where neither holds, what a step makes of the plan for the input symbol at phase j: the
@@ -54,16 +63,14 @@ pub fn ready(
     car: &mut [u16],
     kc: &mut [u16],
     flag: &mut [u8],
-) -> CountAnswer
+) -> Result<u32, Refusal>
     requires { Ready d plan.now (length kc.old) marks.now × (m ≡ (plan_of plan.now).depth) × (phase < phases → j ≤ 4096) × (length car.old ≡ 4096) × (length flag.old ≡ length kc.old) }
     ensures answer { (s y : List ℕ) → length s ≡ places → length y ≡ width → result ≡ ready_answer (frame_of d (plan_of plan.now)) phase need s y j }
     ensures made { MadeIf result (frame_of d (plan_of plan.now)) j car.new kc.new flag.new }
 {
-    if let Finding::Ground(g, place) = lent_grounds(d, plan, phase, need, places, width) {
-        return CountAnswer::Refused(g, place);
-    }
+    lent_grounds(d, plan, phase, need, places, width)?;
     let nd = spots::prepare(d, plan, marks, m, j, car, kc, flag);
-    CountAnswer::Count(nd as u32)
+    Ok(nd as u32)
 }
 
 // The phase of the next step.

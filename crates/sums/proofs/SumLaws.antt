@@ -1,14 +1,10 @@
 -- The checksum of the cells up to a place, and one cell more. Assumes nothing.
-use Prim.Native.Nat.{ℕ, suc, ◌<◌, ◌≤◌}
+use Prim.Native.Nat.{ℕ, suc, ◌<◌}
 use mathlib.Core.Path.{◌≡◌, refl, sym, ap, ◌∙◌}
 use mathlib.Core.List.{List, [], ◌∷◌, ◌++◌}
 use lib.ListN.{length, get_or, take}
-use lib.Seq.{take-suc, take_all}
+use lib.Seq.{take-suc}
 use Rattle.sums.specs.Sums.{mix, mix_all}
-
--- numbers more after a checksum that is known
-pub after : {r s t : ℕ} (xs : List ℕ) → r ≡ mix_all s xs → s ≡ t → r ≡ mix_all t xs
-after xs e p = e ∙ ap (λ (u : ℕ). mix_all u xs) p
 
 mix_snoc : (sum : ℕ) (xs : List ℕ) (x : ℕ) → mix_all sum (xs ++ (x ∷ [])) ≡ mix (mix_all sum xs) x
 mix_snoc sum [] x = refl
@@ -17,7 +13,3 @@ mix_snoc sum (y ∷ ys) x = mix_snoc (mix sum y) ys x
 -- one cell more
 pub mix_next : (sum : ℕ) (xs : List ℕ) (i : ℕ) → i < length xs → mix (mix_all sum (take i xs)) (get_or xs i 0) ≡ mix_all sum (take (suc i) xs)
 mix_next sum xs i h = sym (ap (mix_all sum) (take-suc xs i 0 h) ∙ mix_snoc sum (take i xs) (get_or xs i 0))
-
--- past the last cell nothing more comes
-pub mix_end : (sum : ℕ) (xs : List ℕ) (i n : ℕ) → length xs ≤ i → length xs ≤ n → mix_all sum (take i xs) ≡ mix_all sum (take n xs)
-mix_end sum xs i n h g = ap (mix_all sum) (take_all i xs h ∙ sym (take_all n xs g))

@@ -6,9 +6,9 @@ ghost use Rattle.std.specs.Prelude.{◌≡◌, [], ◌∷◌, take};
 ghost use Rattle.std.specs.Float.{binary32};
 ghost use Rattle.std.specs.Float.Ieee.{to_bits};
 ghost use Rattle.sums.specs.Sums.{mix, mix_all, patterns};
-ghost use Rattle.sums.specs.Numbers.{state_numbers, count_numbers, start_numbers, listen_numbers, send_numbers, receive_numbers};
+ghost use Rattle.sums.specs.Numbers.{refusal_numbers, state_numbers, count_numbers, start_numbers, listen_numbers, send_numbers, receive_numbers};
 
-use rules::{CountAnswer, ListenAnswer, ReceiveAnswer, ReceiverState, SendAnswer, StartAnswer};
+use rules::{EmitterState, Heard, ReceiverState, Refusal, RefusedStep};
 
 // The checksum with one number more.
 pub fn mixed(sum: u32, x: u32) -> u32
@@ -31,11 +31,18 @@ fn mixed3(sum: u32, a: u32, b: u32, c: u32) -> u32
     mixed(mixed(mixed(sum, a), b), c)
 }
 
+// The checksum with a refusal more.
+fn mixed_refusal(sum: u32, refusal: Refusal) -> u32
+    ensures { result ≡ mix_all sum (refusal_numbers refusal) }
+{
+    mixed3(sum, 2, refusal.number, refusal.place)
+}
+
 // The checksum with a cell more.
 fn mixed_cell(sum: u32, cell: u16) -> u32
     ensures { result ≡ mix sum cell }
 {
-    mixed(sum, cell as u32)
+    mixed(sum, u32::from(cell))
 }
 
 // The checksum with the first n cells more, or with all where there are fewer.
@@ -43,14 +50,8 @@ pub fn mixed_cells(sum: u32, cells: &[u16], n: usize) -> u32
     ensures { result ≡ mix_all sum (take n cells.now) }
 {
     let mut mix = sum;
-    let mut i: usize = 0;
-    while i < n {
-        if cells.len() <= i {
-            return mix;
-        }
-        let next = mixed_cell(mix, cells[i]);
-        mix = next;
-        i += 1;
+    for x in &cells[..n.min(cells.len())] {
+        mix = mixed_cell(mix, *x);
     }
     mix
 }
@@ -77,11 +78,8 @@ pub fn mixed_singles(sum: u32, singles: &[f32]) -> u32
     ensures { result ≡ mix_all sum (patterns singles.now) }
 {
     let mut mix = sum;
-    let mut i: usize = 0;
-    while i < singles.len() {
-        let next = mixed_single(mix, singles[i]);
-        mix = next;
-        i += 1;
+    for y in singles {
+        mix = mixed_single(mix, *y);
     }
     mix
 }
@@ -94,57 +92,55 @@ fn mixed_state(sum: u32, state: ReceiverState) -> u32
 }
 
 // The checksum with the answer about N_D more.
-pub fn mixed_count(sum: u32, answer: CountAnswer) -> u32
+pub fn mixed_count(sum: u32, answer: Result<u32, Refusal>) -> u32
     ensures { result ≡ mix_all sum (count_numbers answer) }
 {
     match answer {
-        CountAnswer::Count(n) => mixed(mixed(sum, 1), n),
-        CountAnswer::Refused(number, place) => mixed3(sum, 2, number, place),
+        Ok(n) => mixed_two(sum, 1, n),
+        Err(refusal) => mixed_refusal(sum, refusal),
     }
 }
 
 // The checksum with the answer of a fresh emitter more.
-pub fn mixed_start(sum: u32, answer: StartAnswer) -> u32
+pub fn mixed_start(sum: u32, answer: Result<EmitterState, Refusal>) -> u32
     ensures { result ≡ mix_all sum (start_numbers answer) }
 {
     match answer {
-        StartAnswer::Started(state) => mixed_two(sum, 1, state.phase),
-        StartAnswer::Refused(number, place) => mixed3(sum, 2, number, place),
+        Ok(state) => mixed_two(sum, 1, state.phase),
+        Err(refusal) => mixed_refusal(sum, refusal),
     }
 }
 
 // The checksum with the answer of a fresh receiver more.
-pub fn mixed_listen(sum: u32, answer: ListenAnswer) -> u32
+pub fn mixed_listen(sum: u32, answer: Result<ReceiverState, Refusal>) -> u32
     ensures { result ≡ mix_all sum (listen_numbers answer) }
 {
     match answer {
-        ListenAnswer::Started(state) => mixed_state(mixed(sum, 1), state),
-        ListenAnswer::Refused(number, place) => mixed3(sum, 2, number, place),
+        Ok(state) => mixed_state(mixed(sum, 1), state),
+        Err(refusal) => mixed_refusal(sum, refusal),
     }
 }
 
 // The checksum with the answer of an emit or flush step more.
-pub fn mixed_send(sum: u32, answer: SendAnswer) -> u32
+pub fn mixed_send(sum: u32, answer: Result<EmitterState, RefusedStep<EmitterState>>) -> u32
     ensures { result ≡ mix_all sum (send_numbers answer) }
 {
     match answer {
-        SendAnswer::Sent(state) => mixed_two(sum, 1, state.phase),
-        SendAnswer::Refused(number, place, state) => {
-            mixed(mixed3(sum, 2, number, place), state.phase)
-        }
+        Ok(state) => mixed_two(sum, 1, state.phase),
+        Err(step) => mixed(mixed_refusal(sum, step.refusal), step.state.phase),
     }
 }
 
 // The checksum with the answer of a receive step more.
-pub fn mixed_receive(sum: u32, answer: ReceiveAnswer) -> u32
+pub fn mixed_receive(
+    sum: u32,
+    answer: Result<Heard<ReceiverState>, RefusedStep<ReceiverState>>,
+) -> u32
     ensures { result ≡ mix_all sum (receive_numbers answer) }
 {
     match answer {
-        ReceiveAnswer::Warming(state) => mixed_state(mixed(sum, 1), state),
-        ReceiveAnswer::Data(state, count) => mixed_state(mixed(mixed(sum, 3), count), state),
-        ReceiveAnswer::Refused(number, place, state) => mixed_state(
-            mixed3(sum, 2, number, place),
-            state,
-        ),
+        Ok(Heard::Warming(state)) => mixed_state(mixed(sum, 1), state),
+        Ok(Heard::Data(state, count)) => mixed_state(mixed(mixed(sum, 3), count), state),
+        Err(step) => mixed_state(mixed_refusal(sum, step.refusal), step.state),
     }
 }

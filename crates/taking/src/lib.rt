@@ -17,13 +17,11 @@ fn take_cells(cells: &[u16], flag: &[u8], p: usize, k: usize, buffer: &mut [u16]
     ensures stored { (b : List ℕ) → buffer.old ≡ sets b 0 (take d (taken_data flag.now cells.now)) → buffer.new ≡ sets b 0 (take result (taken_data flag.now cells.now)) }
 {
     let mut taken = d;
-    let mut i: usize = 0;
-    while i < k {
+    for i in 0..k {
         if flag[p + i] == 0 {
             buffer[taken] = cells[p + i];
-            taken = taken + 1;
+            taken += 1;
         }
-        i = i + 1;
     }
     taken
 }
@@ -34,17 +32,16 @@ pub fn take_data(cells: &[u16], flag: &[u8], buffer: &mut [u16])
     ensures { buffer.new ≡ sets buffer.old 0 (taken_data flag.now cells.now) }
 {
     let n = cells.len();
-    let mut p: usize = 0;
+    let blocks = n / 16;
     let mut taken: usize = 0;
-    while p + 16 <= n {
+    for b in 0..blocks {
+        let p = 16 * b;
         if all_data(flag, p) {
             copy_block(cells, p, buffer, taken);
-            taken = taken + 16;
+            taken += 16;
         } else {
-            let next = take_cells(cells, flag, p, 16, buffer, taken);
-            taken = next;
+            taken = take_cells(cells, flag, p, 16, buffer, taken);
         }
-        p = p + 16;
     }
-    take_cells(cells, flag, p, n - p, buffer, taken);
+    take_cells(cells, flag, 16 * blocks, n - 16 * blocks, buffer, taken);
 }

@@ -77,11 +77,8 @@ fn append(line: Line, bytes: &[u8]) -> Line
     ensures { Longer line bytes.now result }
 {
     let mut longer = line;
-    let mut i = 0;
-    while i < bytes.len() {
-        let next = push(longer, bytes[i]);
-        longer = next;
-        i += 1;
+    for byte in bytes {
+        longer = push(longer, *byte);
     }
     longer
 }

@@ -4,8 +4,7 @@ use mathlib.Core.Path.{◌≡◌}
 use mathlib.Core.List.{List}
 use native.Mathlib.Omega.{arith}
 use lib.ListN.{length}
-use Rattle.rules.specs.declared.Finding.TheVariants.{Fine}
-use Rattle.rules.specs.declared.Verdict.TheVariants.{Accepted}
+use Rattle.std.specs.Prelude.{Ok}
 use Rattle.rules.specs.Device.{khz50}
 use Rattle.rules.specs.Fits.{capacity}
 use Rattle.rules.specs.Plan.{plan_of}
@@ -24,10 +23,10 @@ pub record Counted (s : List ℕ) (n : ℕ) : Type 0 where
   pub all : n ≡ cells (frame_of khz50 (plan_of s))
   pub few : n ≤ capacity
 
-pub counted : (s : List ℕ) (n : ℕ) → Accepted n ≡ verdict khz50 s → Counted s n
+pub counted : (s : List ℕ) (n : ℕ) → Ok n ≡ verdict khz50 s → Counted s n
 unfolding frame_of
 counted s n e =
-    let fine : grounds1to15 khz50 s ≡ Fine = no_ground khz50 s n e in
+    let fine : grounds1to15 khz50 s ≡ Ok tt = no_ground khz50 s n e in
     let depth = depth_in khz50 s fine in
     let all : n ≡ cells (frame_of khz50 (plan_of s)) = accepted_cells khz50 s n e in
     record {

@@ -1,10 +1,7 @@
 -- What the entries answer and leave when they are lent only the first cells: past those nothing changes. Assumes nothing.
-use Rattle.std.specs.Prelude.{ℕ, ◌≡◌, List, ◌++◌, take, drop}
+use Rattle.std.specs.Prelude.{ℕ, ◌≡◌, List, ◌++◌, take, drop, Ok, Err}
 use Rattle.counting.specs.Search.{pick}
-use Rattle.rules.specs.declared.CountAnswer.{CountAnswer}
-use Rattle.rules.specs.declared.CountAnswer.TheVariants as a-count
-use Rattle.rules.specs.declared.Verdict.{Verdict}
-use Rattle.rules.specs.declared.Verdict.TheVariants as a-verdict
+use Rattle.rules.specs.Refusals.{Verdict, CountAnswer}
 use Rattle.rules.specs.Device.{khz50}
 use Rattle.rules.specs.Steps.{Sending as Sent, Starting, leaves, starts, emit_step, flush_step, start_step}
 use Rattle.rules.specs.Receive.{Receiving as Heard, Listening, hears, listens, receive_step, listen_step}
@@ -13,13 +10,13 @@ use Rattle.trials.specs.declared.Receiving.{Receiving}
 
 -- the number of a count, 0 of a refusal
 abbrev pub counted : CountAnswer → ℕ
-counted (a-count.Count n) = n
-counted (a-count.Refused n p) = 0
+counted (Ok n) = n
+counted (Err r) = 0
 
 -- so many places under an accepted plan, 0 under a refused one
 abbrev pub needed : ℕ → Verdict → ℕ
-needed places (a-verdict.Accepted n) = places
-needed places (a-verdict.Refused n p) = 0
+needed places (Ok n) = places
+needed places (Err r) = 0
 
 -- the first r cells are the first n of them, or all
 pub record Front (r n : ℕ) (cells : List ℕ) : Type 0 where

@@ -13,10 +13,7 @@ ghost use Rattle.rules.specs.Steps.{leaves, starts, data_count_answer};
 ghost use Rattle.rules.specs.Receive.{hears, listens};
 ghost use Rattle.trials.specs.Parts.{Front, counted, needed, send_part, receive_part, start_part, listen_part};
 
-use rules::{
-    CountAnswer, EmitterState, ListenAnswer, ReceiveAnswer, ReceiverState, SendAnswer, StartAnswer,
-    Verdict,
-};
+use rules::{EmitterState, Heard, ReceiverState, Refusal, RefusedStep};
 
 // What a send is given: whether it is a flush, the state, and how many cells of data, store and symbol.
 #[derive(Clone, Copy)]
@@ -43,29 +40,24 @@ pub fn at_most(n: usize, cells: &[u16]) -> usize
     ensures prefix_len { IsPrefixLen result cells.now }
     ensures front { Front result n cells.now }
 {
-    if n < cells.len() {
-        return n;
-    }
-    cells.len()
+    n.min(cells.len())
 }
 
 // N_D at a phase, 0 where it is refused.
 pub fn data_count(plan: &[u8], phase: u32) -> usize
     ensures { result ≡ counted (data_count_answer khz50 plan.now phase) }
 {
-    match cells::data_count(plan, phase) {
-        CountAnswer::Count(n) => n as usize,
-        CountAnswer::Refused(_, _) => 0,
-    }
+    cells::data_count(plan, phase).unwrap_or(0) as usize
 }
 
 // The places that an emitter's store needs under an accepted plan, 0 under another.
 pub fn emitter_need(plan: &[u8]) -> usize
     ensures { result ≡ needed (emitter_places (frame_of khz50 (plan_of plan.now))) (verdict khz50 plan.now) }
 {
+    // By hand: by `map_or` the closure needs a `requires` of its own, that the plan is accepted, and is longer than this match.
     match judge::judge(plan) {
-        Verdict::Accepted(n) => places::emitter_places(records::number_at(plan, 6), n as usize),
-        Verdict::Refused(_, _) => 0,
+        Ok(n) => places::emitter_places(records::number_at(plan, 6), n as usize),
+        Err(_) => 0,
     }
 }
 
@@ -73,9 +65,10 @@ pub fn emitter_need(plan: &[u8]) -> usize
 pub fn receiver_need(plan: &[u8]) -> usize
     ensures { result ≡ needed (receiver_places (frame_of khz50 (plan_of plan.now))) (verdict khz50 plan.now) }
 {
+    // By hand: by `map_or` the closure needs a `requires` of its own, that the plan is accepted, and is longer than this match.
     match judge::judge(plan) {
-        Verdict::Accepted(n) => places::receiver_places(records::number_at(plan, 6), n as usize),
-        Verdict::Refused(_, _) => 0,
+        Ok(n) => places::receiver_places(records::number_at(plan, 6), n as usize),
+        Err(_) => 0,
     }
 }
 
@@ -87,7 +80,7 @@ pub fn send(
     store: &mut [u16],
     cells: &[u16],
     symbol: &mut [u16],
-) -> SendAnswer
+) -> Result<EmitterState, RefusedStep<EmitterState>>
     ensures { leaves result store.new symbol.new ≡ send_part plan.now profile.now given store.old cells.now symbol.old }
 {
     let state = EmitterState { phase: given.phase };
@@ -115,7 +108,7 @@ pub fn receive(
     store: &mut [u16],
     symbol: &[u16],
     buffer: &mut [u16],
-) -> ReceiveAnswer
+) -> Result<Heard<ReceiverState>, RefusedStep<ReceiverState>>
     ensures { hears result store.new buffer.new ≡ receive_part plan.now profile.now given store.old symbol.now buffer.old }
 {
     let state = ReceiverState {
@@ -136,7 +129,12 @@ pub fn receive(
 }
 
 // A fresh emitter in the first n cells of the store.
-pub fn fresh_emitter(plan: &[u8], phase: u32, n: usize, store: &mut [u16]) -> StartAnswer
+pub fn fresh_emitter(
+    plan: &[u8],
+    phase: u32,
+    n: usize,
+    store: &mut [u16],
+) -> Result<EmitterState, Refusal>
     ensures { starts result store.new ≡ start_part plan.now phase n store.old }
 {
     let places = at_most(n, store);
@@ -144,7 +142,12 @@ pub fn fresh_emitter(plan: &[u8], phase: u32, n: usize, store: &mut [u16]) -> St
 }
 
 // A fresh receiver in the first n cells of the store.
-pub fn fresh_receiver(plan: &[u8], phase: u32, n: usize, store: &mut [u16]) -> ListenAnswer
+pub fn fresh_receiver(
+    plan: &[u8],
+    phase: u32,
+    n: usize,
+    store: &mut [u16],
+) -> Result<ReceiverState, Refusal>
     ensures { listens result store.new ≡ listen_part plan.now phase n store.old }
 {
     let places = at_most(n, store);

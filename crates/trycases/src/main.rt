@@ -5,11 +5,6 @@
 
 use console::Standard;
 
-// The number of two bytes, high byte first.
-fn number_of(high: u8, low: u8) -> u16 {
-    (high as u16) * 256 + low as u16
-}
-
 // Reads a plan of this length, tries the range and prints its line; false where it could not be read whole or its line was not written.
 fn try_case(streams: &mut Standard, plan: &mut [u8], first: u16, last: u16) -> bool {
     if !console::fill(streams, b"trycases", plan) {
@@ -33,8 +28,8 @@ fn one_case(streams: &mut Standard) -> bool {
     try_case(
         streams,
         &mut buf[..n],
-        number_of(head[4], head[5]),
-        number_of(head[6], head[7]),
+        u16::from_be_bytes([head[4], head[5]]),
+        u16::from_be_bytes([head[6], head[7]]),
     )
 }
 

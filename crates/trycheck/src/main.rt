@@ -3,8 +3,7 @@
 // is read or printed. Reading and writing go as in plancheck.
 #![tactic(auto)]
 
-use console::{Input, Standard};
-use words::Word;
+use console::Standard;
 
 // The largest number that a record of a plan can hold.
 const MOST: u32 = 65535;
@@ -20,14 +19,13 @@ fn print_trial(streams: &mut Standard, plan: &[u8], first: u16, last: u16) {
 // Reads the plan and prints the line of the range.
 fn try_input(streams: &mut Standard, first: u16, last: u16) {
     let mut buf = io::large_buffer();
-    match console::read(streams, &mut buf) {
-        Input::Failed => console::tell_unread(streams, b"trycheck"),
-        Input::Bytes(n) => {
-            print_trial(streams, &buf[..n], first, last);
-            if n == 65536 {
-                console::read_on(streams, &mut buf);
-            }
-        }
+    let Some(n) = console::read(streams, &mut buf) else {
+        console::tell_unread(streams, b"trycheck");
+        return;
+    };
+    print_trial(streams, &buf[..n], first, last);
+    if n == 65536 {
+        console::read_on(streams, &mut buf);
     }
 }
 
@@ -43,8 +41,8 @@ fn tell_expected(streams: &mut Standard) {
 // The range from `first` to the number of the second word.
 fn try_second(rt: &HostRuntime, streams: &mut Standard, first: u16) {
     match arguments::number_word(rt, 2, MOST) {
-        Word::Malformed => tell_expected(streams),
-        Word::Number(last) => try_input(streams, first, last as u16),
+        Some(last) => try_input(streams, first, last as u16),
+        None => tell_expected(streams),
     }
 }
 
@@ -55,7 +53,7 @@ fn main(rt: HostRuntime) {
         return;
     }
     match arguments::number_word(&rt, 1, MOST) {
-        Word::Malformed => tell_expected(&mut streams),
-        Word::Number(first) => try_second(&rt, &mut streams, first as u16),
+        Some(first) => try_second(&rt, &mut streams, first as u16),
+        None => tell_expected(&mut streams),
     }
 }

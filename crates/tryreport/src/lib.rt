@@ -7,7 +7,6 @@ ghost use Rattle.text.specs.Bytes.{written};
 ghost use Rattle.tryreport.specs.TryLine.{try_line};
 
 use copies::COPY_MAX;
-use rules::Verdict;
 use text::Line;
 
 // The line of a plan and a range: that of a refusal, or else of the copy.
@@ -17,10 +16,8 @@ pub fn try_line(plan: &[u8], first: u16, last: u16) -> Line
 {
     let mut copy = [0u8; COPY_MAX];
     let trial = exclusion::try_range(rules::khz50_device(), plan, first, last, &mut copy);
-    let length = trial.length;
-    let verdict = trial.verdict;
-    match verdict {
-        Verdict::Refused(number, place) => text::refused_line(number, place),
-        Verdict::Accepted(n) => report::counted_line(&copy[..length], n),
+    match trial.verdict {
+        Err(refusal) => text::refused_line(refusal.number, refusal.place),
+        Ok(n) => report::counted_line(&copy[..trial.length], n),
     }
 }

@@ -2,7 +2,7 @@
 use Prim.Native.Nat.{ℕ, ◌^◌, ◌<◌}
 use mathlib.Core.Path.{◌≡◌, refl, sym, ap, ◌∙◌, subst}
 use mathlib.Core.Bool.{true, false}
-use mathlib.Core.Option.{none, some}
+use Rattle.std.specs.Prelude.{Some, None, Ok}
 use native.Mathlib.Omega.{arith}
 use lib.IntN.{ℤ, pos, negsuc}
 use borrow.Author.Tests.{eq-eqb, eqb-true}
@@ -16,7 +16,8 @@ use Rattle.points.specs.Back.{inside, back}
 use Rattle.points.specs.Made.{Made}
 use Rattle.points.proofs.BackLaws.{Covered, covered, distinct, point_inside, point_back, back_lt, back_point}
 use Rattle.points.proofs.Ends.{within_x, within_y, reached_one, reached_x, reached_y}
-use Rattle.values.specs.declared.ValueAnswer.TheVariants.{Value, Refused}
+use Rattle.rules.specs.Refusals.{refused_by}
+use Rattle.rules.proofs.Findings.{not_fine}
 use Rattle.values.specs.Answers.{same_whole, makes, value_answer}
 use Rattle.values.specs.Claims.{PointClaims}
 
@@ -51,7 +52,7 @@ module _ (m : ℕ) (p : Point) where
   other k j l w e = omega (arith, sym (point_back m k j l) ∙ ap (back m) e)
 
   -- inside: the one value that makes the point
-  pub one_value : Covered m → inside m p ≡ true → lowest (makes m p) (2 ^ m) ≡ some (back m p)
+  pub one_value : Covered m → inside m p ≡ true → lowest (makes m p) (2 ^ m) ≡ Some (back m p)
   one_value k t =
       let v = back m p in
       let l = back_lt m k p t in
@@ -59,7 +60,7 @@ module _ (m : ℕ) (p : Point) where
       (λ j z w. by_test (makes m p j) (λ y. absurd (other k j (omega arith) w (makes_true j y))) (λ n. n))
 
   -- outside: none does
-  pub no_value : Covered m → inside m p ≡ false → lowest (makes m p) (2 ^ m) ≡ none
+  pub no_value : Covered m → inside m p ≡ false → lowest (makes m p) (2 ^ m) ≡ None
   no_value k t =
       none_lowest (makes m p) (2 ^ m)
       (λ j w. by_test (makes m p j) (λ y. absurd (conflict (inside m p) (subst (λ (q : Point). inside m q ≡ true) (makes_true j y) (point_inside m k j)) t)) (λ n. n))
@@ -67,20 +68,18 @@ module _ (m : ℕ) (p : Point) where
 -- ---- the claims
 
 -- the answer at a point of the constellation
-value_inside : (m : ℕ) (p : Point) → load_listed m ≡ true → inside m p ≡ true → value_answer m p ≡ Value (back m p)
+value_inside : (m : ℕ) (p : Point) → load_listed m ≡ true → inside m p ≡ true → value_answer m p ≡ Ok (back m p)
 unfolding value_answer
 value_inside m p t i = rw (t, one_value m p (covered m t) i) refl
 
-way_back : (m v : ℕ) → load_listed m ≡ true → v < 2 ^ m → value_answer m (point_of m v) ≡ Value v
+way_back : (m v : ℕ) → load_listed m ≡ true → v < 2 ^ m → value_answer m (point_of m v) ≡ Ok v
 way_back m v t h =
     let k = covered m t in
-    value_inside m (point_of m v) t (point_inside m k v) ∙ ap Value (point_back m k v h)
+    value_inside m (point_of m v) t (point_inside m k v) ∙ ap Ok (point_back m k v h)
 
-none_made : (m : ℕ) (p : Point) → load_listed m ≡ true → value_answer m p ≡ Refused 24 0 → Made m p → ⊥
+none_made : (m : ℕ) (p : Point) → load_listed m ≡ true → value_answer m p ≡ refused_by 24 0 → Made m p → ⊥
 none_made m p t e made =
-    let w = sym (way_back m made.0 t made.1) ∙ ap (value_answer m) made.2 ∙ e in
-    let z : ◌≡◌ {A = ℕ} 0 1 = cc in
-    omega arith
+    not_fine (sym e ∙ sym (ap (value_answer m) made.2) ∙ way_back m made.0 t made.1)
 
 pub point_claims : (m : ℕ) → load_listed m ≡ true → PointClaims m
 point_claims m t =

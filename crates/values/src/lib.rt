@@ -10,13 +10,7 @@ ghost use Rattle.values.specs.Claims.{PointClaims};
 
 use gray::{gray_bits, is_gray, magnitude, power};
 use points::{Point, load_listed, signed_point};
-
-// The answer to which value: the value, or refused with number and place.
-#[derive(Clone, Copy)]
-pub enum ValueAnswer {
-    Value(u32),
-    Refused(u32, u32),
-}
+use rules::Refusal;
 
 // Whether a point lies in the cross.
 fn in_cross(s: u32, x: i32, y: i32) -> bool
@@ -105,16 +99,22 @@ fn back(load: u32, x: i32, y: i32) -> u32
 }
 
 // The one value that makes a point: refused by 22, then 24.
-pub fn value_of(load: u32, x: i32, y: i32) -> ValueAnswer
+pub fn value_of(load: u32, x: i32, y: i32) -> Result<u32, Refusal>
     ensures { result ≡ value_answer load (at x y) }
 {
     if !load_listed(load) {
-        return ValueAnswer::Refused(22, load);
+        return Err(Refusal {
+            number: 22,
+            place: load,
+        });
     }
     if !inside(load, x, y) {
-        return ValueAnswer::Refused(24, 0);
+        return Err(Refusal {
+            number: 24,
+            place: 0,
+        });
     }
-    ValueAnswer::Value(back(load, x, y))
+    Ok(back(load, x, y))
 }
 
 // Every listed load: the way back, distinct points, and the ends of a coordinate's range.

@@ -2,7 +2,6 @@
 use mathlib.Core.Path.{◌≡◌, refl, sym, ap, ◌∙◌}
 use mathlib.Core.Bool.{Bool, true, false, not, ◌&&◌, ◌||◌, true≢false, false≢true}
 use mathlib.Core.Logic.{inl, inr}
-use mathlib.Core.Option.{none}
 use mathlib.Core.List.{List}
 use Prim.Native.Nat.{ℕ, zero, suc, ◌+◌, ◌-◌, ◌≤◌, ◌<◌}
 use native.Mathlib.Omega.{arith}
@@ -14,7 +13,7 @@ use Rattle.counting.proofs.Bools.{Less, decide, or_true}
 use Rattle.counting.proofs.Laws.{lowest_none}
 use Rattle.ranges.specs.Reach.{hit}
 use Rattle.rules.specs.declared.Device.{Device}
-use Rattle.rules.specs.declared.Finding.TheVariants.{Fine}
+use Rattle.std.specs.Prelude.{Ok, None}
 use Rattle.rules.specs.Plan.{Plan, plan_of, number}
 use Rattle.rules.specs.Bands.{excluded, active}
 use Rattle.rules.specs.Grounds.{outside, around_plc}
@@ -62,7 +61,7 @@ ready d s np reach hot pil rec lo hi m n l fits w r few a b e size = record {
 
 -- the first run touches 0 and the last the end
 module _ (d : Device) (p : Plan) (lo hi : List ℕ) (n : ℕ) (fits : Fits d) (r : Runs (excluded p) d.subcarriers lo hi n) (low : n ≤ length lo) (high : n ≤ length hi)
-    (plc-low : d.low_plc ≤ p.plc) (plc-high : p.plc ≤ d.high_plc) (six : none ≡ outside d p) (seven : none ≡ around_plc d p) where
+    (plc-low : d.low_plc ≤ p.plc) (plc-high : p.plc ≤ d.high_plc) (six : None ≡ outside d p) (seven : None ≡ around_plc d p) where
   out_excluded : (k : ℕ) → k < d.subcarriers → (ltb k d.low_active || ltb d.high_active k) ≡ true → excluded p k ≡ true
   unfolding outside active
   out_excluded k l t = go (excluded p k) refl
@@ -127,7 +126,7 @@ module _ (d : Device) (p : Plan) (lo hi : List ℕ) (n : ℕ) (fits : Fits d) (r
   edge_runs = record { runs = r; two = two_runs; bottom = bottom_is; top = before_top; lows = low; highs = high }
 
 -- the runs of a plan that passes grounds 6 to 8
-pub edges : (d : Device) (p : Plan) (lo hi : List ℕ) (n : ℕ) (pil rec : List ℕ) (np l : ℕ) (m : List ℕ) → Ready d p lo hi n pil rec np l m → Fine ≡ grounds6to8 d p → EdgeRuns d p lo hi n
+pub edges : (d : Device) (p : Plan) (lo hi : List ℕ) (n : ℕ) (pil rec : List ℕ) (np l : ℕ) (m : List ℕ) → Ready d p lo hi n pil rec np l m → Ok tt ≡ grounds6to8 d p → EdgeRuns d p lo hi n
 edges d p lo hi n pil rec np l m w e =
     let two = early_fine d p e in
     edge_runs d p lo hi n w.fits w.runs w.los w.his (omega (arith, w.plc, w.l_low)) (omega (arith, w.plc, w.l_high)) two.0 two.1

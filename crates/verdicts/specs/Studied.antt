@@ -1,8 +1,7 @@
 -- What is known of a plan once it is accepted. Assumes nothing.
-use Rattle.std.specs.Prelude.{List, ℕ, ◌≤◌, length}
+use Rattle.std.specs.Prelude.{List, ℕ, ◌≤◌, length, Ok, Err}
 use Rattle.rules.specs.declared.Device.{Device}
-use Rattle.rules.specs.declared.Verdict.{Verdict}
-use Rattle.rules.specs.declared.Verdict.TheVariants.{Accepted, Refused}
+use Rattle.rules.specs.Refusals.{Verdict}
 use Rattle.rules.specs.Plan.{plan_of}
 use Rattle.marks.specs.Marked.{Marked}
 
@@ -15,5 +14,5 @@ pub record Studied (d : Device) (s : List ℕ) (m : List ℕ) : Type 0 where
 
 -- the same, where the verdict is accepted
 abbrev pub StudiedIf : Verdict → Device → List ℕ → List ℕ → Type 0
-StudiedIf (Accepted n) d s m = Studied d s m
-StudiedIf (Refused g place) d s m = Unit {0}
+StudiedIf (Ok n) d s m = Studied d s m
+StudiedIf (Err r) d s m = Unit {0}

@@ -2,16 +2,14 @@
 // ask for the array that they fill with marks.
 #![tactic(auto)]
 
-ghost use Rattle.std.specs.Prelude.{◌≡◌, false, ◌/◌, length};
+ghost use Rattle.std.specs.Prelude.{◌≡◌, false, ◌/◌, length, Ok, Err};
 ghost use Rattle.rules.specs.Grounds.{bad_length, grounds1to5, verdict};
-ghost use Rattle.rules.specs.declared.Finding.TheVariants.{Fine};
 ghost use Rattle.rules.specs.Fits.{Fits};
 ghost use Rattle.plan.specs.Noted.{Noted};
 ghost use Rattle.plan.specs.Walk.{Kept};
 ghost use Rattle.verdicts.specs.Studied.{StudiedIf};
 
-use plan::Chain;
-use rules::{Device, Finding, Verdict};
+use rules::{Device, Refusal};
 
 // Grounds 6 to 15 of a plan whose chain is good, from its tables.
 fn study_tables(
@@ -23,18 +21,16 @@ fn study_tables(
     rec: &[u16; 128],
     np: usize,
     m: &mut [u16; 4096],
-) -> Verdict
-    requires { Fits d × Noted d plan.now np reach.now hot.now pil.now rec.now × (Fine ≡ grounds1to5 d plan.now) × (length m.old ≡ 4096) }
+) -> Result<u32, Refusal>
+    requires { Fits d × Noted d plan.now np reach.now hot.now pil.now rec.now × (Ok tt ≡ grounds1to5 d plan.now) × (length m.old ≡ 4096) }
     ensures { (result ≡ verdict d plan.now) × StudiedIf result d plan.now m.new × (length m.new ≡ 4096) }
 {
     let mut lo = [0u16; 2048];
     let mut hi = [0u16; 2048];
     let n = ranges::runs(reach, hot, d.subcarriers, &mut lo, &mut hi);
     let l = records::number_at(plan, 4);
-    match markgrounds::grounds_6_to_8(d, plan, &lo, &hi, n, pil, rec, np, l, m) {
-        Finding::Ground(g, k) => Verdict::Refused(g, k),
-        Finding::Fine => grounds::grounds_9_to_15(d, plan, &lo, &hi, n, m),
-    }
+    markgrounds::grounds_6_to_8(d, plan, &lo, &hi, n, pil, rec, np, l, m)?;
+    grounds::grounds_9_to_15(d, plan, &lo, &hi, n, m)
 }
 
 // Grounds 1 to 15 of a plan whose chain goes on at record `from`: no ground holds in the records before it, and their ranges and `before`
@@ -49,18 +45,16 @@ pub fn study_from(
     pil: &mut [u16; 128],
     rec: &mut [u16; 128],
     m: &mut [u16; 4096],
-) -> Verdict
+) -> Result<u32, Refusal>
     requires { Fits d × (bad_length plan.now ≡ false → Kept d plan.now (length plan.now / 8) from before reach.old hot.old pil.old rec.old) × (length m.old ≡ 4096) }
     ensures { (result ≡ verdict d plan.now) × StudiedIf result d plan.now m.new × (length m.new ≡ 4096) }
 {
-    match plan::walk_chain(d, plan, from, before, reach, hot, pil, rec) {
-        Chain::Bad(g, place) => Verdict::Refused(g, place),
-        Chain::Good(np, _) => study_tables(d, plan, reach, hot, pil, rec, np, m),
-    }
+    let chain = plan::walk_chain(d, plan, from, before, reach, hot, pil, rec)?;
+    study_tables(d, plan, reach, hot, pil, rec, chain.pilots, m)
 }
 
 // Grounds 1 to 15 of any device that fits. Where the plan is accepted, m holds the mark of every subcarrier.
-pub fn study(d: Device, plan: &[u8], m: &mut [u16; 4096]) -> Verdict
+pub fn study(d: Device, plan: &[u8], m: &mut [u16; 4096]) -> Result<u32, Refusal>
     requires { Fits d × (length m.old ≡ 4096) }
     ensures { (result ≡ verdict d plan.now) × StudiedIf result d plan.now m.new × (length m.new ≡ 4096) }
 {

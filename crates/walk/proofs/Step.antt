@@ -4,7 +4,7 @@ use Prim.Native.Nat.{ℕ, zero, suc, ◌+◌, ◌%◌, ◌/◌, ◌^◌, ◌≤�
 use mathlib.Core.Path.{◌≡◌, refl, sym, ap, ◌∙◌}
 use mathlib.Core.Logic.{by_cases}
 use mathlib.Core.Bool.{Bool, false, ◌&&◌}
-use mathlib.Core.Option.{Option, none, some, map}
+use Rattle.std.specs.Prelude.{Option, Some, None, option_map}
 use native.Mathlib.Nat.{mod-lt, mod-eq_of_lt, div-eq_of_lt, add-mod_right, add-div_right}
 use native.Mathlib.Decide.{dec_lt}
 use native.Mathlib.Omega.{arith}
@@ -31,12 +31,12 @@ reversed_zero (suc b) = omega (arith, reversed_zero b)
 abbrev pub ranked? : (ℕ → ℕ) → ℕ → ℕ → Option ℕ
 ranked? key n i = when (ltb i n) (of_rank key n i)
 
-pub found_rank : (key : ℕ → ℕ) (n i q : ℕ) → InjBelow n key → q < n → rank key n q ≡ i → ranked? key n i ≡ some q
+pub found_rank : (key : ℕ → ℕ) (n i q : ℕ) → InjBelow n key → q < n → rank key n q ≡ i → ranked? key n i ≡ Some q
 found_rank key n i q inj h e =
     let l : i < n = omega (arith, rank_below key n q h) in
-    ap (λ (t : Bool). when t (of_rank key n i)) (lt-ltb i n l) ∙ ap some (ap (of_rank key n) (sym e) ∙ of_rank-rank key n inj q h)
+    ap (λ (t : Bool). when t (of_rank key n i)) (lt-ltb i n l) ∙ ap Some (ap (of_rank key n) (sym e) ∙ of_rank-rank key n inj q h)
 
-pub past_ranks : (key : ℕ → ℕ) (n i : ℕ) → n ≤ i → ranked? key n i ≡ none
+pub past_ranks : (key : ℕ → ℕ) (n i : ℕ) → n ≤ i → ranked? key n i ≡ None
 past_ranks key n i h = ap (λ (t : Bool). when t (of_rank key n i)) (le-ltb i n h)
 
 module _ (b c n : ℕ) (hn : n ≤ c) where
@@ -63,7 +63,7 @@ module _ (b c n : ℕ) (hn : n ≤ c) where
     last_of_row : n ≤ p + 2 ^ b → rank (house_key b c) n p + 1 ≡ rows_before b n (i + 1)
     last_of_row l = omega (arith, here, add-div_right p (pow_pos b), rows_next b n i (p + 2 ^ b) l (omega arith) (add-mod_right p (2 ^ b) ∙ row_is))
 
-    same_row : p + 2 ^ b < n → ranked? (house_key b c) n (rank (house_key b c) n p + 1) ≡ some (p + 2 ^ b)
+    same_row : p + 2 ^ b < n → ranked? (house_key b c) n (rank (house_key b c) n p + 1) ≡ Some (p + 2 ^ b)
     same_row l =
         let e : (p + 2 ^ b) % 2 ^ b ≡ reversed b i = add-mod_right p (2 ^ b) ∙ row_is in
         found_rank (house_key b c) n _ (p + 2 ^ b) inj l (omega (arith, rows_here b n c i (p + 2 ^ b) hn i_lt l e, here, add-div_right p (pow_pos b)))
@@ -72,12 +72,12 @@ module _ (b c n : ℕ) (hn : n ≤ c) where
     passed : (j : ℕ) → i < j → (ltb i j && ltb (reversed b j) n) ≡ false → n ≤ reversed b j
     passed j lo e = ltb-false (reversed b j) n (sym (ap (λ (t : Bool). t && ltb (reversed b j) n) (lt-ltb i j lo)) ∙ e)
 
-    other_row : n ≤ p + 2 ^ b → (o : Option ℕ) → row_after b n i ≡ o → ranked? (house_key b c) n (rank (house_key b c) n p + 1) ≡ map (reversed b) o
+    other_row : n ≤ p + 2 ^ b → (o : Option ℕ) → row_after b n i ≡ o → ranked? (house_key b c) n (rank (house_key b c) n p + 1) ≡ option_map (reversed b) o
     unfolding row_after
-    other_row l none e =
+    other_row l None e =
         past_ranks (house_key b c) n _
         (omega (arith, last_of_row l, rows_all b n, i_lt, rows_skip b n (i + 1) (2 ^ b) (omega (arith, i_lt)) (λ j lo hi. passed j (omega arith) (lowest_none _ (2 ^ b) e j hi))))
-    other_row l (some k) e =
+    other_row l (Some k) e =
         let t : ℕ → Bool = λ k. ltb i k && ltb (reversed b k) n in
         let r : Lowest t (2 ^ b) k = lowest_some t (2 ^ b) k e in
         let lo : i < k = ltb-true i k (and_left (ltb i k) (ltb (reversed b k) n) r.passes) in
@@ -88,13 +88,13 @@ module _ (b c n : ℕ) (hn : n ≤ c) where
         (omega (arith, last_of_row l, rows_here b n c k q hn r.below hq (mod-eq_of_lt lq), div-eq_of_lt lq, rows_skip b n (i + 1) k (omega arith) (λ j low hi. passed j (omega arith) (r.none_under j hi))))
 
     -- the step goes along the row, and from its end to another row
-    along : p + 2 ^ b < n → next_place b n p ≡ some (p + 2 ^ b)
+    along : p + 2 ^ b < n → next_place b n p ≡ Some (p + 2 ^ b)
     unfolding next_place
-    along l = ap (λ (t : Bool). pick t (some (p + 2 ^ b)) (map (reversed b) (row_after b n (reversed b (p % 2 ^ b))))) (lt-ltb (p + 2 ^ b) n l)
+    along l = ap (λ (t : Bool). pick t (Some (p + 2 ^ b)) (option_map (reversed b) (row_after b n (reversed b (p % 2 ^ b))))) (lt-ltb (p + 2 ^ b) n l)
 
-    onward : n ≤ p + 2 ^ b → next_place b n p ≡ map (reversed b) (row_after b n (reversed b (p % 2 ^ b)))
+    onward : n ≤ p + 2 ^ b → next_place b n p ≡ option_map (reversed b) (row_after b n (reversed b (p % 2 ^ b)))
     unfolding next_place
-    onward l = ap (λ (t : Bool). pick t (some (p + 2 ^ b)) (map (reversed b) (row_after b n (reversed b (p % 2 ^ b))))) (le-ltb (p + 2 ^ b) n l)
+    onward l = ap (λ (t : Bool). pick t (Some (p + 2 ^ b)) (option_map (reversed b) (row_after b n (reversed b (p % 2 ^ b))))) (le-ltb (p + 2 ^ b) n l)
 
     -- it finds the place of the next rank, or nothing where there is none
     pub next_is : next_place b n p ≡ ranked? (house_key b c) n (rank (house_key b c) n p + 1)

@@ -5,7 +5,7 @@ use Prim.Native.Nat.{ℕ, zero, suc, ◌+◌, ◌-◌, ◌*◌, ◌%◌, ◌/◌
 use mathlib.Core.Path.{◌≡◌, refl, sym, ap, ◌∙◌, fun_ext}
 use mathlib.Core.Logic.{by_cases}
 use mathlib.Core.Bool.{Bool, true, false}
-use mathlib.Core.Option.{Option, none, some, map, bind}
+use Rattle.std.specs.Prelude.{Option, Some, None, option_map, option_and_then}
 use native.Mathlib.Nat.{mod-lt, mod-mod, div-add-mod', mod-add-mod, add-zero}
 use native.Mathlib.Numerals.{add-one}
 use native.Mathlib.Decide.{dec_lt, dec_le}
@@ -105,11 +105,11 @@ straight_key b c = fun_ext (λ q. ap (house_key b c) (turned_still (2 ^ b) strai
 pub straight_step : (b n p : ℕ) → next_cell b n straight p ≡ next_place b n p
 unfolding next_cell
 straight_step b n p =
-    ap (λ (x : ℕ). map (unturned (2 ^ b) straight) (next_place b n x)) (turned_still (2 ^ b) straight (pow_pos b) p refl) ∙ same (next_place b n p)
+    ap (λ (x : ℕ). option_map (unturned (2 ^ b) straight) (next_place b n x)) (turned_still (2 ^ b) straight (pow_pos b) p refl) ∙ same (next_place b n p)
   where
-    same : (o : Option ℕ) → map (unturned (2 ^ b) straight) o ≡ o
-    same none = refl
-    same (some x) = ap some (unturned_still (2 ^ b) straight (pow_pos b) x refl)
+    same : (o : Option ℕ) → option_map (unturned (2 ^ b) straight) o ≡ o
+    same None = refl
+    same (Some x) = ap Some (unturned_still (2 ^ b) straight (pow_pos b) x refl)
 
 module _ (b c n : ℕ) (s : ℕ → ℕ) (hn : n ≤ c) (stays : Stays (2 ^ b) n s) where
   -- no two cells have one key
@@ -136,30 +136,30 @@ module _ (b c n : ℕ) (s : ℕ → ℕ) (hn : n ≤ c) (stays : Stays (2 ^ b) n
       place_rank q ∙ ap (rank (house_key b c) n) (turned_unturned (2 ^ b) s (pow_pos b) x) ∙ rank-of_rank (house_key b c) n (house_key_inj b c n hn) r h in
       ap (of_rank (turned_key b c s) n) (sym e) ∙ of_rank-rank (turned_key b c s) n key_inj q (unturned_below (2 ^ b) s (pow_pos b) n stays x hx)
 
-  found_at : (i : ℕ) → map (unturned (2 ^ b) s) (ranked? (house_key b c) n i) ≡ ranked? (turned_key b c s) n i
+  found_at : (i : ℕ) → option_map (unturned (2 ^ b) s) (ranked? (house_key b c) n i) ≡ ranked? (turned_key b c s) n i
   found_at i =
       by_cases (dec_lt i n)
       (λ l.
-      ap (λ (t : Bool). map (unturned (2 ^ b) s) (when t (of_rank (house_key b c) n i))) (lt-ltb i n l)
-      ∙ ap some (sym (place_of i l)) ∙ sym (ap (λ (t : Bool). when t (of_rank (turned_key b c s) n i)) (lt-ltb i n l)))
+      ap (λ (t : Bool). option_map (unturned (2 ^ b) s) (when t (of_rank (house_key b c) n i))) (lt-ltb i n l)
+      ∙ ap Some (sym (place_of i l)) ∙ sym (ap (λ (t : Bool). when t (of_rank (turned_key b c s) n i)) (lt-ltb i n l)))
       (λ l.
       let h : n ≤ i = omega arith in
-      ap (map (unturned (2 ^ b) s)) (past_ranks (house_key b c) n i h) ∙ sym (past_ranks (turned_key b c s) n i h))
+      ap (option_map (unturned (2 ^ b) s)) (past_ranks (house_key b c) n i h) ∙ sym (past_ranks (turned_key b c s) n i h))
 
   -- the step finds the cell of the next rank, or nothing where there is none
   pub step_is : (p : ℕ) → p < n → next_cell b n s p ≡ ranked? (turned_key b c s) n (rank (turned_key b c s) n p + 1)
   unfolding next_cell
   step_is p h =
-      ap (map (unturned (2 ^ b) s))
+      ap (option_map (unturned (2 ^ b) s))
       (next_is b c n hn (turned (2 ^ b) s p) (turned_below (2 ^ b) s (pow_pos b) n stays p h) ∙ ap (λ (r : ℕ). ranked? (house_key b c) n (r + 1)) (sym (place_rank p)))
       ∙ found_at (rank (turned_key b c s) n p + 1)
 
   -- the walk reads the cells by rising rank, from 0 on, and ends after the last
   pub walk_is : (i : ℕ) → walked b n s i ≡ ranked? (turned_key b c s) n i
-  unfolding walked bind
-  walk_is zero = begun (ltb 0 n) ∙ ap (map (unturned (2 ^ b) s)) (start_is b c n hn) ∙ found_at 0
+  unfolding walked
+  walk_is zero = begun (ltb 0 n) ∙ ap (option_map (unturned (2 ^ b) s)) (start_is b c n hn) ∙ found_at 0
     where
-      begun : (t : Bool) → when t (unturned (2 ^ b) s 0) ≡ map (unturned (2 ^ b) s) (when t 0)
+      begun : (t : Bool) → when t (unturned (2 ^ b) s 0) ≡ option_map (unturned (2 ^ b) s) (when t 0)
       begun true = refl
       begun false = refl
   walk_is (suc i) =
@@ -167,8 +167,8 @@ module _ (b c n : ℕ) (s : ℕ → ℕ) (hn : n ≤ c) (stays : Stays (2 ^ b) n
       (λ l.
       let p : ℕ = of_rank (turned_key b c s) n i in
       let e : rank (turned_key b c s) n p ≡ i = rank-of_rank (turned_key b c s) n key_inj i l in
-      ap (λ (o : Option ℕ). bind o (next_cell b n s)) (walk_is i ∙ ap (λ (t : Bool). when t p) (lt-ltb i n l))
+      ap (λ (o : Option ℕ). option_and_then (next_cell b n s) o) (walk_is i ∙ ap (λ (t : Bool). when t p) (lt-ltb i n l))
       ∙ step_is p (of_rank_below (turned_key b c s) n key_inj i l) ∙ ap (ranked? (turned_key b c s) n) (ap (λ (x : ℕ). x + 1) e ∙ add-one i))
       (λ l.
       let h : n ≤ i = omega arith in
-      ap (λ (o : Option ℕ). bind o (next_cell b n s)) (walk_is i ∙ past_ranks (turned_key b c s) n i h) ∙ sym (past_ranks (turned_key b c s) n (suc i) (omega arith)))
+      ap (λ (o : Option ℕ). option_and_then (next_cell b n s) o) (walk_is i ∙ past_ranks (turned_key b c s) n i h) ∙ sym (past_ranks (turned_key b c s) n (suc i) (omega arith)))

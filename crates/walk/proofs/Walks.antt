@@ -4,7 +4,8 @@ use mathlib.Core.Path.{◌≡◌, refl, sym, ap, ◌∙◌, subst}
 use mathlib.Core.Logic.{by_cases}
 use mathlib.Core.Bool.{Bool}
 use mathlib.Core.List.{List}
-use mathlib.Core.Option.{Option, some, bind, get_or, none-ne-some, some-injective}
+use Rattle.std.specs.Prelude.{Option, Some, unwrap_or, option_and_then}
+use Rattle.std.proofs.lemmas.Option.{none-some, same_Some}
 use native.Mathlib.Decide.{dec_lt}
 use native.Mathlib.Omega.{arith}
 use borrow.Author.Tests.{lt-ltb}
@@ -24,8 +25,8 @@ use Rattle.walk.proofs.Symbols.{Reads, filled_by_walk}
 
 -- any step that finds the cell of the next rank, and any walk that reads the cells by rising rank
 module _ (key : ℕ → ℕ) (n : ℕ) (next walk : ℕ → Option ℕ) (inj : InjBelow n key)
-    (steps : (i : ℕ) → walk (suc i) ≡ bind (walk i) next) (finds : (p : ℕ) → p < n → next p ≡ ranked? key n (rank key n p + 1)) (reads : (i : ℕ) → walk i ≡ ranked? key n i) where
-  ranked_at : (i : ℕ) → i < n → ranked? key n i ≡ some (of_rank key n i)
+    (steps : (i : ℕ) → walk (suc i) ≡ option_and_then next (walk i)) (finds : (p : ℕ) → p < n → next p ≡ ranked? key n (rank key n p + 1)) (reads : (i : ℕ) → walk i ≡ ranked? key n i) where
+  ranked_at : (i : ℕ) → i < n → ranked? key n i ≡ Some (of_rank key n i)
   ranked_at i h = ap (λ (t : Bool). when t (of_rank key n i)) (lt-ltb i n h)
 
   pub row_after_row : RowAfterRow key n next walk
@@ -41,13 +42,13 @@ module _ (key : ℕ → ℕ) (n : ℕ) (next walk : ℕ → Option ℕ) (inj : I
     steps = steps;
     numbers = λ i h. reads i ∙ ranked_at i h;
     over = λ i h. reads i ∙ past_ranks key n i h;
-    comes = λ p h. reads (rank key n p) ∙ ranked_at (rank key n p) (rank_below key n p h) ∙ ap some (of_rank-rank key n inj p h);
+    comes = λ p h. reads (rank key n p) ∙ ranked_at (rank key n p) (rank_below key n p h) ∙ ap Some (of_rank-rank key n inj p h);
     once = λ i p e.
         by_cases (dec_lt i n)
         (λ l.
-        let z : of_rank key n i ≡ p = some-injective (of_rank key n i) p (sym (reads i ∙ ranked_at i l) ∙ e) in
+        let z : of_rank key n i ≡ p = same_Some (of_rank key n i) p (sym (reads i ∙ ranked_at i l) ∙ e) in
         (subst (λ (q : ℕ). q < n) z (of_rank_below key n inj i l), sym (rank-of_rank key n inj i l) ∙ ap (rank key n) z))
-        (λ l. absurd (none-ne-some p (sym (reads i ∙ past_ranks key n i (omega arith)) ∙ e)));
+        (λ l. absurd (none-some p (sym (reads i ∙ past_ranks key n i (omega arith)) ∙ e)));
   }
 
 -- any number of rows, of cells, any turn of the full columns
@@ -69,7 +70,7 @@ plan_rows d p = straight_rows d.row_bits d.subcarriers (cells (frame_of d p)) (c
 pub plan_reads : (d : Device) (p : Plan) → Reads (frame_of d p) (walk_cell d.row_bits (cells (frame_of d p)))
 plan_reads d p = record {
   keys = unfold frame_of cells in house_key_inj d.row_bits d.subcarriers (cells (frame_of d p)) (count_le (frame_of d p).ranked d.subcarriers);
-  numbers = λ i h. unfold walk_cell in ap (λ (o : Option ℕ). get_or o 0) ((plan_rows d p).numbers i h);
+  numbers = λ i h. unfold walk_cell in ap (λ (o : Option ℕ). unwrap_or o 0) ((plan_rows d p).numbers i h);
 }
 
 pub plan_walk : (d : Device) (s : List ℕ) → PlanWalk d s

@@ -1,7 +1,6 @@
 -- Walks with no column turned, cell by cell, as a second model has them (tests/walk.py): in eight rows, of which the last ones are empty
 -- where there are few cells, and the beginning of Plan A's, 425 cells in 128 rows, with the step at its end. Assumes nothing.
-use Rattle.std.specs.Prelude.{ℕ, ◌≡◌, List, [], ◌∷◌}
-use Rattle.std.proofs.Math.Option.{none, some}
+use Rattle.std.specs.Prelude.{ℕ, ◌≡◌, List, [], ◌∷◌, Some, None}
 use Rattle.counting.specs.Search.{tabulate}
 use Rattle.walk.specs.Walk.{straight, next_cell, walk_cell}
 
@@ -17,9 +16,9 @@ WalkTable =
     × (walk_list 3 6 6 ≡ 0 ∷ 4 ∷ 2 ∷ 1 ∷ 5 ∷ 3 ∷ [])
     × (walk_list 3 8 8 ≡ 0 ∷ 4 ∷ 2 ∷ 6 ∷ 1 ∷ 5 ∷ 3 ∷ 7 ∷ [])
     × (walk_list 3 11 11 ≡ 0 ∷ 8 ∷ 4 ∷ 2 ∷ 10 ∷ 6 ∷ 1 ∷ 9 ∷ 5 ∷ 3 ∷ 7 ∷ [])
-    × (next_cell 3 3 straight 1 ≡ none)
-    × (next_cell 3 6 straight 5 ≡ some 3)
-    × (next_cell 3 6 straight 3 ≡ none)
+    × (next_cell 3 3 straight 1 ≡ None)
+    × (next_cell 3 6 straight 5 ≡ Some 3)
+    × (next_cell 3 6 straight 3 ≡ None)
     × (walk_list 7 425 9 ≡ 0 ∷ 128 ∷ 256 ∷ 384 ∷ 64 ∷ 192 ∷ 320 ∷ 32 ∷ 160 ∷ [])
-    × (next_cell 7 425 straight 319 ≡ some 127)
-    × (next_cell 7 425 straight 383 ≡ none)
+    × (next_cell 7 425 straight 319 ≡ Some 127)
+    × (next_cell 7 425 straight 383 ≡ None)

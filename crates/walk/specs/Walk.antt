@@ -1,8 +1,7 @@
 -- Row after row (document 02, Req 06): the step from cell to cell, and the walk that it makes (our word) through n cells in 2 ^ b rows
 -- (document 01, "Cells and interleaving"). Place x stands in row x mod 2 ^ b, column x div 2 ^ b. A cell stands at the place of its number
 -- if its column is not turned, and none is today: the turn is a parameter. Assumes nothing.
-use Rattle.std.specs.Prelude.{ℕ, zero, suc, ◌+◌, ◌-◌, ◌*◌, ◌%◌, ◌/◌, ◌^◌, ◌<◌, ◌≡◌, ◌&&◌, ltb}
-use Rattle.std.proofs.Math.Option.{Option, some, map, get_or, bind}
+use Rattle.std.specs.Prelude.{ℕ, zero, suc, ◌+◌, ◌-◌, ◌*◌, ◌%◌, ◌/◌, ◌^◌, ◌<◌, ◌≡◌, ◌&&◌, ltb, Option, Some, unwrap_or, option_map, option_and_then}
 use Rattle.counting.specs.Search.{pick, when, lowest}
 use Rattle.rules.specs.Frame.{reversed, house_key}
 
@@ -12,7 +11,7 @@ row_after b n i = lowest (λ k. ltb i k && ltb (reversed b k) n) (2 ^ b)
 
 -- the place read after x: the next along its row, else the first of the next row that has one; nothing where x is read last
 unfoldable pub next_place : ℕ → ℕ → ℕ → Option ℕ
-next_place b n x = pick (ltb (x + 2 ^ b) n) (some (x + 2 ^ b)) (map (reversed b) (row_after b n (reversed b (x % 2 ^ b))))
+next_place b n x = pick (ltb (x + 2 ^ b) n) (Some (x + 2 ^ b)) (option_map (reversed b) (row_after b n (reversed b (x % 2 ^ b))))
 
 -- the place of cell q where column c is turned by s c rows: row a goes to row a + s c, modulo the number R of rows
 unfoldable pub turned : ℕ → (ℕ → ℕ) → ℕ → ℕ
@@ -36,13 +35,13 @@ turned_key b c s q = house_key b c (turned (2 ^ b) s q)
 
 -- the step: the cell read after cell p
 unfoldable pub next_cell : ℕ → ℕ → (ℕ → ℕ) → ℕ → Option ℕ
-next_cell b n s p = map (unturned (2 ^ b) s) (next_place b n (turned (2 ^ b) s p))
+next_cell b n s p = option_map (unturned (2 ^ b) s) (next_place b n (turned (2 ^ b) s p))
 
 -- number i of the walk: the cell at place 0, if there is one, and from each the step
 unfoldable pub walked : ℕ → ℕ → (ℕ → ℕ) → ℕ → Option ℕ
 walked b n s zero = when (ltb 0 n) (unturned (2 ^ b) s 0)
-walked b n s (suc i) = bind (walked b n s i) (next_cell b n s)
+walked b n s (suc i) = option_and_then (next_cell b n s) (walked b n s i)
 
 -- the same as a number, 0 past the end, with no column turned
 unfoldable pub walk_cell : ℕ → ℕ → ℕ → ℕ
-walk_cell b n i = get_or (walked b n straight i) 0
+walk_cell b n i = unwrap_or (walked b n straight i) 0

@@ -6,9 +6,9 @@ use mathlib.Core.List.{List}
 use native.Mathlib.Omega.{arith}
 use borrow.Author.Tests.{lt-ltb, le-ltb}
 use Rattle.rules.specs.declared.Device.{Device}
+use Rattle.rules.specs.declared.Reason.TheVariants.{PilotBelow, PilotAbove, PilotBy}
 use Rattle.rules.specs.Plan.{plan_of}
 use Rattle.rules.specs.Roles.{one_of, predefined}
-use Rattle.rules.specs.declared.WhyAnswer.TheVariants.{PilotBelow, PilotAbove, PilotBy}
 use Rattle.reasons.specs.Reasons.{makes_pilot, first_record, pilot_reason}
 use Rattle.reasons.proofs.Answers.{below_is, above_is, predefined_is, further_is}
 

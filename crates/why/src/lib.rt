@@ -3,26 +3,18 @@
 // nothing and asks nothing of its caller.
 #![tactic(auto)]
 
-ghost use Rattle.std.specs.Prelude.{◌+◌, ◌-◌, ◌≤◌, ◌<◌, ◌≡◌, true, false};
-ghost use Rattle.rules.specs.declared.Finding.TheVariants.{Fine};
+ghost use Rattle.std.specs.Prelude.{◌+◌, ◌-◌, ◌≤◌, ◌<◌, ◌≡◌, Bool, true, false, Ok};
 ghost use Rattle.rules.specs.Device.{khz50};
 ghost use Rattle.rules.specs.Fits.{Fits};
-ghost use Rattle.rules.specs.Plan.{plan_of};
+ghost use Rattle.rules.specs.Plan.{Entry, plan_of};
 ghost use Rattle.rules.specs.Roles.{role, ranked};
 ghost use Rattle.rules.specs.Grounds.{bad_length, grounds1to15};
 ghost use Rattle.records.specs.Read.{entry_of};
 ghost use Rattle.reasons.specs.Reasons.{excludes, makes_pilot, first_record, pilot_reason, scattered_phase, with_reason, why_answer};
-ghost use Rattle.why.specs.Effects.{effect_of};
+ghost use Rattle.why.specs.Tests.{Decides};
 
 use records::Record;
-use rules::{Device, Role, RoleAnswer, WhyAnswer};
-
-// What a record may do to a subcarrier.
-#[derive(Clone, Copy)]
-enum Effect {
-    Excludes,
-    MakesPilot,
-}
+use rules::{Device, Reason, Refusal, Role};
 
 // The record excludes k: it is of kind 2, and its range covers k.
 fn excludes_it(e: Record, k: usize) -> bool
@@ -47,26 +39,18 @@ fn makes_it_pilot(e: Record, k: usize) -> bool
     e.low == k
 }
 
-// The record has this effect on k.
-fn has_effect(effect: Effect, e: Record, k: usize) -> bool
-    ensures { result ≡ effect_of effect k (entry_of e) }
-{
-    match effect {
-        Effect::Excludes => excludes_it(e, k),
-        Effect::MakesPilot => makes_it_pilot(e, k),
-    }
-}
-
-// The first record on the chain with this effect on k; 0 if none has it. A later record stands above i, at `after` or above it.
-fn first_record(plan: &[u8], effect: Effect, k: usize) -> u32
-    requires { bad_length plan.now ≡ false }
-    ensures { result ≡ first_record (effect_of effect k) plan.now }
+// The first record on the chain that passes the test; 0 if none does. A later record stands above i, at `after` or above it.
+fn first_record<F: Fn(Record) -> bool>(plan: &[u8], passes: F) -> u32
+    requires sized { bad_length plan.now ≡ false }
+    requires callable { F.IsAlwaysCallable passes }
+    ensures { (t : Entry → Bool) → Decides (F.post passes) t → result ≡ first_record t plan.now }
 {
     let records = plan.len() / 8;
     let mut i: usize = 0;
+    // Counted by hand: each record names the next one, so that the data say how far i goes.
     loop {
         let e = records::record_at(plan, i);
-        if has_effect(effect, e, k) {
+        if passes(e) {
             return i as u32;
         }
         let after = i + 1;
@@ -90,55 +74,48 @@ fn above_plc(d: Device, l: usize, k: usize) -> usize
 }
 
 // Why k is a continuous pilot.
-fn pilot_reason(d: Device, plan: &[u8], k: usize) -> WhyAnswer
-    requires { Fits d × (grounds1to15 d plan.now ≡ Fine) × (k < d.subcarriers) }
+fn pilot_reason(d: Device, plan: &[u8], k: usize) -> Reason
+    requires { Fits d × (grounds1to15 d plan.now ≡ Ok tt) × (k < d.subcarriers) }
     ensures { result ≡ pilot_reason d plan.now k }
 {
     let l = records::number_at(plan, 4);
     if !roles::is_among(roles::pilots_of(d, l), k) {
-        return WhyAnswer::PilotBy(first_record(plan, Effect::MakesPilot, k));
+        return Reason::PilotBy(first_record(plan, |e| makes_it_pilot(e, k)));
     }
     if k < l {
-        return WhyAnswer::PilotBelow((l - k) as u32);
+        return Reason::PilotBelow((l - k) as u32);
     }
-    WhyAnswer::PilotAbove(above_plc(d, l, k) as u32)
+    Reason::PilotAbove(above_plc(d, l, k) as u32)
 }
 
 // The phase at which a scattered pilot stands at k, which has a rank.
 fn scattered_phase(d: Device, plan: &[u8], k: usize) -> u32
-    requires { Fits d × (grounds1to15 d plan.now ≡ Fine) × (k < d.subcarriers) × (ranked d (plan_of plan.now) k ≡ true) }
+    requires { Fits d × (grounds1to15 d plan.now ≡ Ok tt) × (k < d.subcarriers) × (ranked d (plan_of plan.now) k ≡ true) }
     ensures { result ≡ scattered_phase d plan.now k }
 {
     let l = records::number_at(plan, 4);
     pattern::symbols_until(l + d.plc_width, k as u16) as u32
 }
 
-// The role of k at phase j, with its reason.
-fn with_reason(d: Device, plan: &[u8], r: Role, k: usize, j: u32) -> WhyAnswer
-    requires { Fits d × (grounds1to15 d plan.now ≡ Fine) × (k < d.subcarriers) × (r ≡ role d (plan_of plan.now) j k) }
+// The reason of the role that k has at phase j.
+fn with_reason(d: Device, plan: &[u8], r: Role, k: usize, j: u32) -> Reason
+    requires { Fits d × (grounds1to15 d plan.now ≡ Ok tt) × (k < d.subcarriers) × (r ≡ role d (plan_of plan.now) j k) }
     ensures { result ≡ with_reason d plan.now k j r }
 {
     match r {
-        Role::Excluded => WhyAnswer::ExcludedBy(first_record(plan, Effect::Excludes, k)),
-        Role::Plc => WhyAnswer::PlcBy(0),
+        Role::Excluded => Reason::ExcludedBy(first_record(plan, |e| excludes_it(e, k))),
+        Role::Plc => Reason::PlcBy(0),
         Role::Continuous => pilot_reason(d, plan, k),
-        Role::Scattered => WhyAnswer::ScatteredOnly(j),
-        Role::Data => WhyAnswer::DataBut(scattered_phase(d, plan, k)),
+        Role::Scattered => Reason::ScatteredOnly(j),
+        Role::Data => Reason::DataBut(scattered_phase(d, plan, k)),
     }
 }
 
 // The role of a subcarrier at a phase, and why.
-pub fn why(plan: &[u8], subcarrier: u32, phase: u32) -> WhyAnswer
+pub fn why(plan: &[u8], subcarrier: u32, phase: u32) -> Result<Reason, Refusal>
     ensures { result ≡ why_answer khz50 plan.now subcarrier phase }
 {
-    match judge::role(plan, subcarrier, phase) {
-        RoleAnswer::Refused(g, place) => WhyAnswer::Refused(g, place),
-        RoleAnswer::Is(r) => with_reason(
-            rules::khz50_device(),
-            plan,
-            r,
-            subcarrier as usize,
-            phase,
-        ),
-    }
+    let r = judge::role(plan, subcarrier, phase)?;
+    let d = rules::khz50_device();
+    Ok(with_reason(d, plan, r, subcarrier as usize, phase))
 }

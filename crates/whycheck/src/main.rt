@@ -4,8 +4,7 @@
 // plancheck.
 #![tactic(auto)]
 
-use console::{Input, Standard};
-use words::Word;
+use console::Standard;
 
 // The subcarrier and the phase that are asked about where no words are given.
 const SUBCARRIER: u32 = 948;
@@ -26,14 +25,13 @@ fn print_why(streams: &mut Standard, plan: &[u8], subcarrier: u32, phase: u32) {
 // Reads the plan and prints the line.
 fn why_input(streams: &mut Standard, subcarrier: u32, phase: u32) {
     let mut buf = io::large_buffer();
-    match console::read(streams, &mut buf) {
-        Input::Failed => console::tell_unread(streams, b"whycheck"),
-        Input::Bytes(n) => {
-            print_why(streams, &buf[..n], subcarrier, phase);
-            if n == 65536 {
-                console::read_on(streams, &mut buf);
-            }
-        }
+    let Some(n) = console::read(streams, &mut buf) else {
+        console::tell_unread(streams, b"whycheck");
+        return;
+    };
+    print_why(streams, &buf[..n], subcarrier, phase);
+    if n == 65536 {
+        console::read_on(streams, &mut buf);
     }
 }
 
@@ -49,16 +47,16 @@ fn tell_expected(streams: &mut Standard) {
 // The subcarrier, at the phase that the second word spells.
 fn why_second(rt: &HostRuntime, streams: &mut Standard, subcarrier: u32) {
     match arguments::number_word(rt, 2, MOST) {
-        Word::Malformed => tell_expected(streams),
-        Word::Number(phase) => why_input(streams, subcarrier, phase),
+        Some(phase) => why_input(streams, subcarrier, phase),
+        None => tell_expected(streams),
     }
 }
 
 // The subcarrier and the phase of two words.
 fn why_words(rt: &HostRuntime, streams: &mut Standard) {
     match arguments::number_word(rt, 1, MOST) {
-        Word::Malformed => tell_expected(streams),
-        Word::Number(subcarrier) => why_second(rt, streams, subcarrier),
+        Some(subcarrier) => why_second(rt, streams, subcarrier),
+        None => tell_expected(streams),
     }
 }
 

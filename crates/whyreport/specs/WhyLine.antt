@@ -1,10 +1,10 @@
 -- The line that says what a subcarrier is doing and why (document 02, Req 08: "prints .. the role and its ground"), as a list of ASCII bytes.
 -- The form is ours and stands in docs/WHYCHECK.md. Examples are in proofs/Examples.antt. Assumes nothing.
-use Rattle.std.specs.Prelude.{ℕ, List, [], ◌∷◌}
+use Rattle.std.specs.Prelude.{ℕ, List, [], ◌∷◌, Ok, Err}
+use Rattle.rules.specs.declared.Reason.TheVariants.{ExcludedBy, PlcBy, PilotBelow, PilotAbove, PilotBy, ScatteredOnly, DataBut}
 use Rattle.rules.specs.Device.{khz50}
 use Rattle.text.specs.Text.{number_line, refused_line}
-use Rattle.rules.specs.declared.WhyAnswer.{WhyAnswer}
-use Rattle.rules.specs.declared.WhyAnswer.TheVariants.{ExcludedBy, PlcBy, PilotBelow, PilotAbove, PilotBy, ScatteredOnly, DataBut, Refused}
+use Rattle.rules.specs.Refusals.{WhyAnswer}
 use Rattle.reasons.specs.Reasons.{why_answer}
 
 -- ---- the role, and what its number is
@@ -38,14 +38,14 @@ data_phase_words = 100 ∷ 97 ∷ 116 ∷ 97 ∷ 32 ∷ 112 ∷ 104 ∷ 97 ∷ 1
 
 -- the line of an answer; "a refused plan prints as in `plancheck`"
 unfoldable pub answer_line : WhyAnswer → List ℕ
-answer_line (ExcludedBy i) = number_line excluded_record_words i
-answer_line (PlcBy i) = number_line plc_record_words i
-answer_line (PilotBelow x) = number_line continuous_below_words x
-answer_line (PilotAbove x) = number_line continuous_above_words x
-answer_line (PilotBy i) = number_line continuous_record_words i
-answer_line (ScatteredOnly q) = number_line scattered_phase_words q
-answer_line (DataBut q) = number_line data_phase_words q
-answer_line (Refused number place) = refused_line number place
+answer_line (Ok (ExcludedBy i)) = number_line excluded_record_words i
+answer_line (Ok (PlcBy i)) = number_line plc_record_words i
+answer_line (Ok (PilotBelow x)) = number_line continuous_below_words x
+answer_line (Ok (PilotAbove x)) = number_line continuous_above_words x
+answer_line (Ok (PilotBy i)) = number_line continuous_record_words i
+answer_line (Ok (ScatteredOnly q)) = number_line scattered_phase_words q
+answer_line (Ok (DataBut q)) = number_line data_phase_words q
+answer_line (Err r) = refused_line r.number r.place
 
 -- the line of subcarrier k at phase j of the plan s
 unfoldable pub why_line : List ℕ → ℕ → ℕ → List ℕ

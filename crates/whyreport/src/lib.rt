@@ -6,23 +6,24 @@ ghost use Rattle.io.specs.Counts.{IsPrefixLen};
 ghost use Rattle.text.specs.Bytes.{written};
 ghost use Rattle.whyreport.specs.WhyLine.{answer_line, why_line};
 
-use rules::WhyAnswer;
+use rules::{Reason, Refusal};
 use text::Line;
 
 // The line of an answer of `why`.
-pub fn answer_line(answer: WhyAnswer) -> Line
+#[tactic(auto, unfolding(crate::specs::WhyLine::answer_line))]
+pub fn answer_line(answer: Result<Reason, Refusal>) -> Line
     ensures result_value { written result ≡ answer_line answer }
     ensures prefix_len { IsPrefixLen result.len result.text }
 {
     match answer {
-        WhyAnswer::ExcludedBy(i) => text::number_line(b"excluded record ", i),
-        WhyAnswer::PlcBy(i) => text::number_line(b"plc record ", i),
-        WhyAnswer::PilotBelow(x) => text::number_line(b"continuous below ", x),
-        WhyAnswer::PilotAbove(x) => text::number_line(b"continuous above ", x),
-        WhyAnswer::PilotBy(i) => text::number_line(b"continuous record ", i),
-        WhyAnswer::ScatteredOnly(q) => text::number_line(b"scattered phase ", q),
-        WhyAnswer::DataBut(q) => text::number_line(b"data phase ", q),
-        WhyAnswer::Refused(number, place) => text::refused_line(number, place),
+        Ok(Reason::ExcludedBy(i)) => text::number_line(b"excluded record ", i),
+        Ok(Reason::PlcBy(i)) => text::number_line(b"plc record ", i),
+        Ok(Reason::PilotBelow(x)) => text::number_line(b"continuous below ", x),
+        Ok(Reason::PilotAbove(x)) => text::number_line(b"continuous above ", x),
+        Ok(Reason::PilotBy(i)) => text::number_line(b"continuous record ", i),
+        Ok(Reason::ScatteredOnly(q)) => text::number_line(b"scattered phase ", q),
+        Ok(Reason::DataBut(q)) => text::number_line(b"data phase ", q),
+        Err(refusal) => text::refused_line(refusal.number, refusal.place),
     }
 }
 

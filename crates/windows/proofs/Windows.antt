@@ -2,7 +2,7 @@
 use mathlib.Core.Path.{◌≡◌, ap}
 use mathlib.Core.Logic.{inl, inr}
 use mathlib.Core.Bool.{Bool, true, false}
-use mathlib.Core.Option.{none, some}
+use Rattle.std.specs.Prelude.{Some, None}
 use mathlib.Core.List.{List}
 use Prim.Native.Nat.{ℕ, suc, max, ◌+◌, ◌-◌, ◌≤◌, ◌<◌}
 use native.Mathlib.Omega.{arith}
@@ -72,7 +72,7 @@ module _ (e : ℕ → Bool) (a b : ℕ) (x : List ℕ) (from to : ℕ) (s : Sing
   windows = suc (suc b) - a - size
 
   -- no single is near enough to the one `most` after it
-  pub window_none : ((q : ℕ) → from ≤ q → Near q → ⊥) → first (λ i. when (full (a + i)) (a + i)) windows ≡ none
+  pub window_none : ((q : ℕ) → from ≤ q → Near q → ⊥) → first (λ i. when (full (a + i)) (a + i)) windows ≡ None
   window_none h = from_none full a windows (λ k l w. go k (decide most (many k)) l w)
     where
       go : (k : ℕ) → Less most (many k) → a ≤ k → k < a + windows → full k ≡ false
@@ -85,7 +85,7 @@ module _ (e : ℕ → Bool) (a b : ℕ) (x : List ℕ) (from to : ℕ) (s : Sing
 
   -- q is the lowest single that is: the lowest window ends at the single `most` after it, or starts with the band
   pub window_some : (q : ℕ) → from ≤ q → Near q → ((j : ℕ) → from ≤ j → j < q → Near j → ⊥) → a + size ≤ suc b → (k : ℕ) → k ≡ max a (suc (get_or x (q + most) 0) - size)
-      → first (λ i. when (full (a + i)) (a + i)) windows ≡ some k
+      → first (λ i. when (full (a + i)) (a + i)) windows ≡ Some k
   window_some q l near low w k is =
       let one = s.each q l (omega (arith, near.0)) in
       let two = s.each (q + most) (omega arith) near.0 in
@@ -110,7 +110,7 @@ module _ (e : ℕ → Bool) (a b : ℕ) (x : List ℕ) (from to : ℕ) (s : Sing
           absurd (earlier i r.0 (r.2, omega (arith, r.1, r.3)) (omega (arith, r.3)) (decide i q))
 
 -- no window fits
-pub window_short : (e : ℕ → Bool) (a b size most : ℕ) → suc b < a + size → first (λ i. when (ltb most (count (λ j. e (a + i + j)) size)) (a + i)) (suc (suc b) - a - size) ≡ none
+pub window_short : (e : ℕ → Bool) (a b size most : ℕ) → suc b < a + size → first (λ i. when (ltb most (count (λ j. e (a + i + j)) size)) (a + i)) (suc (suc b) - a - size) ≡ None
 unfolding first
 window_short e a b size most l =
     let z : suc (suc b) - a - size ≡ 0 = omega arith in

@@ -5,7 +5,6 @@
 ghost use Rattle.std.specs.Prelude.{◌≡◌, suc, max, ◌-◌, ◌≤◌, ◌<◌};
 ghost use Rattle.counting.specs.Search.{first};
 ghost use Rattle.counting.specs.Runs.{Singles};
-ghost use Rattle.counting.specs.Answer.{place_of};
 ghost use Rattle.rules.specs.Plan.{plan_of};
 ghost use Rattle.rules.specs.Bands.{excluded};
 ghost use Rattle.rules.specs.Fits.{Fits, capacity, limit};
@@ -13,7 +12,7 @@ ghost use Rattle.bands.specs.BandList.{BandList};
 ghost use Rattle.limits.specs.Answers.{at_band};
 ghost use Rattle.windows.specs.Windows.{window_in};
 
-use counting::{Found, wide};
+use counting::wide;
 use rules::Device;
 
 // The first subcarrier of the lowest window of `size` that ends at v and lies in a band from a on.
@@ -37,22 +36,20 @@ fn window_in(
     b: usize,
     size: usize,
     most: usize,
-) -> Found
+) -> Option<u32>
     requires { Singles (excluded (plan_of plan.now)) a b x.now from to × (to ≤ capacity) × (b < capacity) × (size ≤ limit) × (most ≤ limit) }
-    ensures { place_of result ≡ window_in (plan_of plan.now) size most a b }
+    ensures { result ≡ window_in (plan_of plan.now) size most a b }
 {
     if b + 1 < a + size {
-        return Found::Nothing;
+        return None;
     }
-    let mut q = from;
-    while q + most < to {
+    for q in from..to.saturating_sub(most) {
         let v = wide(x[q + most]);
         if v < wide(x[q]) + size {
-            return Found::At(window_start(v, a, size) as u32);
+            return Some(window_start(v, a, size) as u32);
         }
-        q += 1;
     }
-    Found::Nothing
+    None
 }
 
 // The lowest window of `size` inside a band that has more than `most` excluded (grounds 13 and 14).
@@ -66,17 +63,15 @@ pub fn first_window(
     m: usize,
     size: usize,
     most: usize,
-) -> Found
+) -> Option<u32>
     requires { Fits d × BandList d (plan_of plan.now) a.now b.now c.now x.now m × (m < 256) × (size ≤ limit) × (most ≤ limit) }
-    ensures { place_of result ≡ first (at_band (window_in (plan_of plan.now) size most) a.now b.now) m }
+    ensures { result ≡ first (at_band (window_in (plan_of plan.now) size most) a.now b.now) m }
 {
-    let mut j: usize = 0;
-    while j < m {
+    for j in 0..m {
         let k = limits::band_at(d, plan, a, b, c, x, m, j);
-        match window_in(plan, x, k.from, k.to, k.low, k.high, size, most) {
-            Found::At(at) => return Found::At(at),
-            Found::Nothing => j += 1,
+        if let Some(at) = window_in(plan, x, k.from, k.to, k.low, k.high, size, most) {
+            return Some(at);
         }
     }
-    Found::Nothing
+    None
 }

@@ -13,8 +13,7 @@ use borrow.Author.Tests.{ltb-true, ltb-false, leb-true, le-leb, lt-leb}
 use Rattle.counting.specs.Search.{pick}
 use Rattle.counting.proofs.Bools.{and_false, and_left, and_right, and_intro, by_test}
 use Rattle.text.specs.Text.{spelled, decimal}
-use Rattle.words.specs.declared.Word.{Word}
-use Rattle.words.specs.declared.Word.TheVariants.{Number, Malformed}
+use Rattle.std.specs.Prelude.{Option, Some, None}
 use Rattle.words.specs.Word.{is_digit, digits, value_after, value_of, word_number, UpTo}
 
 -- a digit is at least "0"
@@ -28,7 +27,7 @@ unfolding value_after
 grows v [] = omega arith
 grows v (b ∷ bs) = omega (arith, grows (10 * v + (b - 48)) bs)
 
-pub empty_word : (word : List ℕ) (most : ℕ) → length word ≡ 0 → Malformed ≡ word_number word most
+pub empty_word : (word : List ℕ) (most : ℕ) → length word ≡ 0 → None ≡ word_number word most
 unfolding word_number
 empty_word word most h = rw (lt-leb 1 (length word) (omega arith))
 
@@ -41,18 +40,18 @@ up_to word most =
     (λ t. rw t tt)
 
 -- the number that a word was found to say
-pub at_most : (n most : ℕ) (w : Word) → w ≡ Number n → UpTo most w → n ≤ most
+pub at_most : (n most : ℕ) (w : Option ℕ) → w ≡ Some n → UpTo most w → n ≤ most
 at_most n most w e h = subst (UpTo most) e h
 
 -- what a word says of which some bytes are read and spell v, and these are left
-unfoldable pub left : ℕ → ℕ → List ℕ → Word
-left most v bytes = pick (digits bytes && leb (value_after v bytes) most) (Number (value_after v bytes)) Malformed
+unfoldable pub left : ℕ → ℕ → List ℕ → Option ℕ
+left most v bytes = pick (digits bytes && leb (value_after v bytes) most) (Some (value_after v bytes)) None
 
 left_all : (most : ℕ) (word : List ℕ) → 0 < length word → word_number word most ≡ left most 0 word
 unfolding word_number left
 left_all most word h = rw (le-leb 1 (length word) h)
 
-left_none : (most v : ℕ) → v ≤ most → left most v [] ≡ Number v
+left_none : (most v : ℕ) → v ≤ most → left most v [] ≡ Some v
 unfolding left digits value_after
 left_none most v h = rw (le-leb v most h)
 
@@ -60,11 +59,11 @@ left_digit : (most v b : ℕ) (bs : List ℕ) → is_digit b ≡ true → left m
 unfolding left digits value_after
 left_digit most v b bs h = rw h
 
-left_other : (most v b : ℕ) (bs : List ℕ) → is_digit b ≡ false → left most v (b ∷ bs) ≡ Malformed
+left_other : (most v b : ℕ) (bs : List ℕ) → is_digit b ≡ false → left most v (b ∷ bs) ≡ None
 unfolding left digits
 left_other most v b bs h = rw h
 
-left_above : (most v : ℕ) (bytes : List ℕ) → most < v → left most v bytes ≡ Malformed
+left_above : (most v : ℕ) (bytes : List ℕ) → most < v → left most v bytes ≡ None
 unfolding left
 left_above most v bytes h =
     let l : most < value_after v bytes = omega (arith, grows v bytes) in
@@ -81,7 +80,7 @@ pub reading_none : (word : List ℕ) (most : ℕ) → 0 < length word → Readin
 reading_none word most h = record { within = omega arith; few = omega arith; same = left_all most word h }
 
 -- all is read
-pub reading_all : {word : List ℕ} {most v i : ℕ} → Reading word most v i → length word ≤ i → Number v ≡ word_number word most
+pub reading_all : {word : List ℕ} {most v i : ℕ} → Reading word most v i → length word ≤ i → Some v ≡ word_number word most
 reading_all {word} {most} {v} r h = sym (r.same ∙ ap (left most v) (drop_of_length-le word h) ∙ left_none most v r.few)
 
 -- one byte more is read
@@ -89,14 +88,14 @@ module _ {word : List ℕ} {most v i : ℕ} (r : Reading word most v i) (h : i <
   next_byte_lem : word_number word most ≡ left most v (get_or word i 0 ∷ drop (i + 1) word)
   next_byte_lem = rw add-one (r.same ∙ ap (left most v) (drop-cons word i 0 h))
 
-  pub reading_other : is_digit (get_or word i 0) ≡ false → Malformed ≡ word_number word most
+  pub reading_other : is_digit (get_or word i 0) ≡ false → None ≡ word_number word most
   reading_other t = sym (next_byte_lem ∙ left_other most v _ _ t)
 
   module _ (t : is_digit (get_or word i 0) ≡ true) (next : ℕ) (e : next ≡ 10 * v + (get_or word i 0 - 48)) where
     next_left : word_number word most ≡ left most next (drop (i + 1) word)
     next_left = rw e (next_byte_lem ∙ left_digit most v _ _ t)
 
-    pub reading_above : most < next → Malformed ≡ word_number word most
+    pub reading_above : most < next → None ≡ word_number word most
     reading_above l = sym (next_left ∙ left_above most next _ l)
 
     pub reading_on : next ≤ most → Reading word most next (i + 1)
@@ -148,11 +147,11 @@ spell_text (suc steps) n h =
     (λ t. rw (t, spelled) (spell_more _ n (spell_text steps (n / 10) (omega (arith, ltb-false n 10 t)))))
 
 -- digits that spell a number up to `most` are read as it
-spell_read : {bytes : List ℕ} {n most : ℕ} → Spell bytes n → n ≤ most → word_number bytes most ≡ Number n
+spell_read : {bytes : List ℕ} {n most : ℕ} → Spell bytes n → n ≤ most → word_number bytes most ≡ Some n
 unfolding word_number
 spell_read {bytes} {n} {most} s h = rw (le-leb 1 (length bytes) s.some, s.only, s.value, le-leb n most h)
 
 -- reading what is printed gives the number back
-pub read_back : (n most : ℕ) → n ≤ most → word_number (decimal n) most ≡ Number n
+pub read_back : (n most : ℕ) → n ≤ most → word_number (decimal n) most ≡ Some n
 unfolding decimal
 read_back n most h = spell_read (spell_text (suc n) n (omega arith)) h

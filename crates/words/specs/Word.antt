@@ -1,8 +1,6 @@
 -- What a word of a program's arguments says: a number in decimal digits, or none. A word is a list of ASCII bytes. Assumes nothing.
-use Rattle.std.specs.Prelude.{ℕ, ◌+◌, ◌-◌, ◌*◌, ◌≤◌, Bool, true, ◌&&◌, List, [], ◌∷◌, leb, length}
+use Rattle.std.specs.Prelude.{ℕ, ◌+◌, ◌-◌, ◌*◌, ◌≤◌, Bool, true, ◌&&◌, List, [], ◌∷◌, leb, length, Option, Some, None}
 use Rattle.counting.specs.Search.{pick}
-use Rattle.words.specs.declared.Word.{Word}
-use Rattle.words.specs.declared.Word.TheVariants.{Number, Malformed}
 
 -- the byte is a decimal digit: 48 is "0" and 57 is "9"
 unfoldable pub is_digit : ℕ → Bool
@@ -22,11 +20,11 @@ value_after v (b ∷ bs) = value_after (10 * v + (b - 48)) bs
 abbrev pub value_of : List ℕ → ℕ
 value_of word = value_after 0 word
 
--- the number of a word that is not empty, has digits only and spells at most `most`; any other word is malformed
-unfoldable pub word_number : List ℕ → ℕ → Word
-word_number word most = pick (leb 1 (length word) && digits word && leb (value_of word) most) (Number (value_of word)) Malformed
+-- the number of a word that is not empty, has digits only and spells at most `most`; any other word says none
+unfoldable pub word_number : List ℕ → ℕ → Option ℕ
+word_number word most = pick (leb 1 (length word) && digits word && leb (value_of word) most) (Some (value_of word)) None
 
 -- where a word says a number, it is at most `most`
-abbrev pub UpTo : ℕ → Word → Type 0
-UpTo most (Number n) = n ≤ most
-UpTo most Malformed = Unit {0}
+abbrev pub UpTo : ℕ → Option ℕ → Type 0
+UpTo most (Some n) = n ≤ most
+UpTo most None = Unit {0}

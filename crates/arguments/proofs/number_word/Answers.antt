@@ -2,5 +2,5 @@
 use Rattle.words.proofs.Words.{up_to}
 use Rattle.arguments.proofs.number_word.Goals as goal
 
-pub returns-in-Ok : goal.returns-in-Ok
-returns-in-Ok g c = rw c.word_number.ensures (up_to _ _)
+pub returns : goal.returns
+returns g c = rw c.word_number.ensures (up_to _ _)

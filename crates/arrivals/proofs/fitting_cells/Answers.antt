@@ -1,7 +1,6 @@
 -- `arrivals::fitting_cells` meets its contract. The loop has counted among the first k cells. Assumes nothing.
-use mathlib.Core.Path.{◌≡◌, refl}
+use mathlib.Core.Path.{refl}
 use native.Mathlib.Omega.{arith}
-use lib.ListN.{length}
 use Rattle.counting.specs.Search.{sum, count}
 use Rattle.counting.proofs.Laws.{count_le, bit_le, count_step}
 use Rattle.arrivals.specs.Expected.{allowed_at}
@@ -9,24 +8,18 @@ use Rattle.arrivals.proofs.fitting_cells.Goals as goal
 
 pub loop-k-init : goal.loop-k-init
 unfolding count sum
-loop-k-init c = (omega arith, refl)
+loop-k-init c = refl
 
 pub overflow_add-n : goal.overflow_add-n
 unfolding allowed_at
 overflow_add-n c =
     let a = c.args in
     let l = c.loop-k in
-    omega (arith, count_le (allowed_at a.limits.now a.marks.now a.symbol.now) l.k, bit_le (allowed_at a.limits.now a.marks.now a.symbol.now l.k), c.cell_fits-n.ensures, l.invariant.1)
+    omega (arith, count_le (allowed_at a.limits.now a.marks.now a.symbol.now) l.k, bit_le (allowed_at a.limits.now a.marks.now a.symbol.now l.k), c.cell_fits-n.ensures, l.invariant)
 
 pub loop-k-preserved : goal.loop-k-preserved
 unfolding allowed_at
 loop-k-preserved c =
     let a = c.args in
     let l = c.loop-k in
-    (omega arith, rw c.cell_fits-n.ensures (omega (arith, count_step (allowed_at a.limits.now a.marks.now a.symbol.now) l.k, l.invariant.1)))
-
-pub returns : goal.returns
-returns c =
-    let l = c.loop-k in
-    let e : l.k ≡ length c.args.symbol.now = omega arith in
-    rw e at l.invariant.1
+    rw c.cell_fits-n.ensures (omega (arith, count_step (allowed_at a.limits.now a.marks.now a.symbol.now) l.k, l.invariant))

@@ -1,6 +1,5 @@
 -- `bands::bands` meets its contract. The loop keeps `Loop` of proofs/Step.antt. Assumes nothing.
 use mathlib.Core.Path.{◌≡◌}
-use native.Mathlib.Omega.{arith}
 use lib.ListN.{get_or}
 use Rattle.rules.specs.Plan.{plan_of}
 use Rattle.bands.proofs.Step.{Bounds, bounds, begin, turn_short, turn_long, finish}
@@ -18,55 +17,10 @@ turn c =
     let g = l in
     (bounds g.args.d (plan_of g.args.plan.now) g.args.lo.now g.args.hi.now g.args.n g.requires.0 g.requires.1 _ _ _ _ _ _ _ _ l.loop-i.invariant c.loop-i-test.true, c.wide-e.ensures.0, c.wide-u.ensures.0)
 
-pub bounds-hi-0 : goal.bounds-hi-0
-bounds-hi-0 c = omega (arith, c.requires.1.highs, c.requires.1.two)
-
 pub loop-i-init : goal.loop-i-init
 loop-i-init c =
     let g = c in
     begin _ _ _ _ _ g.requires.0 g.requires.1 g.args.a.now g.args.b.now g.args.c.now g.args.x.now _ c.wide-s.ensures.0 g.requires.2 g.requires.3 g.requires.4 g.requires.5
-
-pub bounds-lo-i : goal.bounds-lo-i
-bounds-lo-i c = omega (arith, c.requires.1.lows)
-
-pub bounds-hi-i : goal.bounds-hi-i
-bounds-hi-i c = omega (arith, c.requires.1.highs)
-
-pub separates-requires : goal.separates-requires
-separates-requires c = let t = turn c in omega (arith, t.0, t.1, t.2)
-
-pub overflow_cast-a : goal.overflow_cast-a
-overflow_cast-a c = let t = turn (goal.at.overflow_cast-a c).After-wide-u in omega (arith, t.0, t.1, t.2)
-
-pub offset_bounds-a-m : goal.offset_bounds-a-m
-offset_bounds-a-m c = let t = turn (goal.at.offset_bounds-a-m c).After-wide-u in omega (arith, t.0, t.1, t.2)
-
-pub bounds-a-m : goal.bounds-a-m
-bounds-a-m c = let t = turn (goal.at.bounds-a-m c).After-wide-u in omega (arith, t.0, t.1, t.2)
-
-pub overflow_sub-b : goal.overflow_sub-b
-overflow_sub-b c = let t = turn (goal.at.overflow_sub-b c).After-wide-u in omega (arith, t.0, t.1, t.2)
-
-pub overflow_cast-b : goal.overflow_cast-b
-overflow_cast-b c = let t = turn (goal.at.overflow_cast-b c).After-wide-u in omega (arith, t.0, t.1, t.2)
-
-pub offset_bounds-b-m : goal.offset_bounds-b-m
-offset_bounds-b-m c = let t = turn (goal.at.offset_bounds-b-m c).After-wide-u in omega (arith, t.0, t.1, t.2)
-
-pub bounds-b-m : goal.bounds-b-m
-bounds-b-m c = let t = turn (goal.at.bounds-b-m c).After-wide-u in omega (arith, t.0, t.1, t.2)
-
-pub overflow_add-m : goal.overflow_add-m
-overflow_add-m c = let t = turn (goal.at.overflow_add-m c).After-wide-u in omega (arith, t.0, t.1, t.2)
-
-pub overflow_cast-c : goal.overflow_cast-c
-overflow_cast-c c = let t = turn (goal.at.overflow_cast-c c).After-wide-u in omega (arith, t.0, t.1, t.2)
-
-pub offset_bounds-c-m : goal.offset_bounds-c-m
-offset_bounds-c-m c = let t = turn (goal.at.offset_bounds-c-m c).After-wide-u in omega (arith, t.0, t.1, t.2)
-
-pub bounds-c-m : goal.bounds-c-m
-bounds-c-m c = let t = turn (goal.at.bounds-c-m c).After-wide-u in omega (arith, t.0, t.1, t.2)
 
 pub loop-i-preserved-then-separates : goal.loop-i-preserved-then-separates
 loop-i-preserved-then-separates c =
@@ -75,12 +29,6 @@ loop-i-preserved-then-separates c =
     let g = l in
     let k = turn (goal.at.loop-i-preserved-then-separates c).After-wide-u in
     turn_long _ _ _ _ _ g.requires.0 g.requires.1 _ _ _ _ _ _ _ _ _ _ _ l.loop-i.invariant t.loop-i-test.true k.1 k.2 c.separates.ensures c.if-separates.true
-
-pub push-nx-requires : goal.push-nx-requires
-push-nx-requires c =
-    let t = turn (goal.at.push-nx-requires c).After-wide-u in
-    let l = c in
-    (l.loop-i.invariant.lx, omega (arith, t.0, t.1, t.2), omega (arith, t.0, t.1, t.2), omega (arith, t.0, t.1, t.2))
 
 pub loop-i-preserved : goal.loop-i-preserved
 loop-i-preserved c =

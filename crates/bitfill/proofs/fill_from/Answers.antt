@@ -22,20 +22,8 @@ good c =
 pub loop-left-init : goal.loop-left-init
 loop-left-init c = let s = c in (unfold total in (omega (arith, s.requires.2)), omega arith, unfold total in (omega arith), omega arith, refl, refl)
 
-pub eight_at-w-requires : goal.eight_at-w-requires
-eight_at-w-requires c = (good c).1
-
 pub fill_two-l-requires : goal.fill_two-l-requires
 fill_two-l-requires c = let g = (good (goal.at.fill_two-l-requires c).In-loop-left).0 in (omega (arith, g), omega (arith, g), c.requires.1, c.loop-left.invariant.3)
-
-pub overflow_add-at : goal.overflow_add-at
-overflow_add-at c = omega (arith, (good (goal.at.overflow_add-at c).In-loop-left).1)
-
-pub overflow_add-c : goal.overflow_add-c
-overflow_add-c c = omega (arith, (good (goal.at.overflow_add-c c).In-loop-left).0)
-
-pub loop-left-smaller : goal.loop-left-smaller
-loop-left-smaller c = omega (arith, (good (goal.at.loop-left-smaller c).In-loop-left).0)
 
 pub loop-left-preserved : goal.loop-left-preserved
 loop-left-preserved c =
@@ -63,12 +51,3 @@ loop-left-preserved c =
       omega arith,
       ap (take (w.c + 2)) f.filled ∙ first_two w.cells xs w.c _ _ (omega (arith, h)) (rw length_filled (omega (arith, h))) w.invariant.5 x y,
     )
-
-pub fill_rest-requires : goal.fill_rest-requires
-fill_rest-requires c =
-    let s = c in
-    let w = c.loop-left in
-    (omega arith, s.requires.1, s.requires.3, w.invariant.1, w.invariant.2, w.invariant.3, w.invariant.5)
-
-pub returns : goal.returns
-returns c = c.fill_rest.ensures

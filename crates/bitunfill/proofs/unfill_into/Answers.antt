@@ -41,18 +41,6 @@ four_cells-v-requires c =
       held_small g.loads.now g.cells.now g.stream.now g.start s.requires.0 s.requires.3 w.stream w.at w.bit w.held w.c w.invariant.1,
     )
 
-pub put_eight-requires : goal.put_eight-requires
-put_eight-requires c = omega (arith, (good (goal.at.put_eight-requires c).In-loop-left).2)
-
-pub overflow_add-at : goal.overflow_add-at
-overflow_add-at c = omega (arith, (good (goal.at.overflow_add-at c).In-loop-left).2)
-
-pub overflow_add-c : goal.overflow_add-c
-overflow_add-c c = omega (arith, (good (goal.at.overflow_add-c c).In-loop-left).0)
-
-pub loop-left-smaller : goal.loop-left-smaller
-loop-left-smaller c = omega (arith, (good (goal.at.loop-left-smaller c).In-loop-left).0)
-
 pub loop-left-preserved : goal.loop-left-preserved
 loop-left-preserved c =
     let i = c in

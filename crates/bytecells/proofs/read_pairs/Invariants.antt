@@ -1,5 +1,4 @@
 -- `bytecells::read_pairs` meets its contract. The loop has read the first i numbers. Assumes nothing.
-use Prim.Native.Nat.{◌-◌, ◌≤◌}
 use mathlib.Core.Path.{◌≡◌}
 use lib.ListN.{length, take}
 use lib.Seq.{sets}
@@ -8,7 +7,4 @@ use Rattle.bytecells.specs.Swapped.{low_first}
 use Rattle.bytecells.proofs.read_pairs.Given as goal
 
 abbrev pub invariant-loop-i : goal.invariant-loop-i
-invariant-loop-i l = (l.i ≤ length l.cells) × (length l.cells ≡ length l.initial.cells) × (l.cells ≡ sets l.initial.cells 0 (take l.i (tabulate (low_first l.b) (length l.initial.cells))))
-
-abbrev pub decreases-loop-i : goal.decreases-loop-i
-decreases-loop-i l = length l.initial.cells - l.i
+invariant-loop-i l = l.cells ≡ sets l.initial.cells 0 (take l.i (tabulate (low_first l.b) (length l.initial.cells)))

@@ -1,28 +1,18 @@
--- `bytedelay::shift` meets its contract. Below k each byte is the one two places on. Assumes nothing.
-use Prim.Native.Nat.{◌+◌}
-use mathlib.Core.Path.{refl, sym, ◌∙◌}
+-- `bytedelay::shift` meets its contract: each byte that is copied comes from two places on. Assumes nothing.
+use Prim.Native.Nat.{ℕ, ◌+◌, ◌-◌}
+use mathlib.Core.Path.{◌≡◌, refl, ap, ◌∙◌}
 use native.Mathlib.Omega.{arith}
-use lib.ListN.{length, get_or, length-set}
-use Rattle.delay.proofs.Shifts.{upto_none, upto_put}
-use Rattle.bytedelay.proofs.ByteShifts.{next_byte, byte_in, next_all}
+use lib.ListN.{get_or}
+use Rattle.bytedelay.proofs.ByteShifts.{next_all}
 use Rattle.bytedelay.proofs.shift.Goals as goal
 
-pub loop-k-init : goal.loop-k-init
-loop-k-init c = (omega arith, refl, upto_none (next_byte c.args.n c.args.store.now) c.args.store.now)
+pub returns-then-n-gt0 : goal.returns-then-n-gt0
+returns-then-n-gt0 c =
+    let s = c.args.store.now in
+    let copied = c.copy_within.ensures in
+    next_all c.args.n s _ c.requires.0 copied.len
+    (λ q h. let e : 2 + (q - 0) ≡ q + 2 = omega arith in copied.by_index.0 q 0 (omega arith) (omega arith) ∙ ap (λ (k : ℕ). get_or s k 0) e)
+    (λ q h. copied.by_index.2 q 0 (omega arith))
 
-pub loop-k-preserved : goal.loop-k-preserved
-loop-k-preserved c =
-    let a = c.args in
-    let l = c.loop-k in
-    let s = a.store.now in (
-      omega arith,
-      simp length-set l.invariant.1,
-      upto_put (length s) l.k (next_byte a.n s) (λ q. get_or s q 0) l.store (get_or l.store (l.k + 2) 0) l.invariant.2 (omega arith)
-          (l.invariant.2.rest (l.k + 2) (omega arith) (omega arith) ∙ sym (byte_in a.n s l.k (omega arith))),
-    )
-
-pub returns : goal.returns
-returns c =
-    let a = c.args in
-    let l = c.loop-k in
-    next_all a.n a.store.now l.store l.k c.requires.0 l.invariant.1 c.loop-k-test.false l.invariant.2
+pub returns-else-n-gt0 : goal.returns-else-n-gt0
+returns-else-n-gt0 c = next_all c.args.n c.args.store.now _ c.requires.0 refl (λ q h. absurd (omega arith)) (λ q h. refl)

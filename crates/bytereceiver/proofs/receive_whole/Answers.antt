@@ -20,7 +20,7 @@ use Rattle.receivegrounds.specs.InOrder.{ReceiveInOrder}
 use Rattle.receivegrounds.proofs.Admissions.{refused, none_refuses, admitted}
 use Rattle.bytereceiver.proofs.Bytes.{as_bytes}
 use Rattle.bytereceiver.proofs.receive_whole.Goals as goal
-use Rattle.bytereceiver.proofs.receive_whole.Goals.{After-admit, After-khz50_device-d, In-Admitted}
+use Rattle.bytereceiver.proofs.receive_whole.Goals.{After-admit, After-khz50_device-d, In-Ok}
 
 -- the device fits, and has as many subcarriers as the arrays have places
 fits : (c : After-khz50_device-d) → Fits c.khz50_device-d.result
@@ -42,13 +42,13 @@ answer c =
     c.admit.ensures.answer (cells_of a.store.now) (cells_of a.symbol.now) (cells_of a.buffer.now) (length_cells a.store.now) (record { number = sym read.ensures.number; read = λ h. read.ensures.read (omega (arith, h, read.auto.cells)) }) (length_cells a.buffer.now)
 
 -- what the step relies on
-granted : (c : In-Admitted) → ReceiveInOrder (frame_of c.khz50_device-d.result (plan_of c.args.plan.now)) ((at c.args.state (cells_of c.args.store.now))) (arriving [] (cells_of c.args.symbol.now) (cells_of c.args.buffer.now)) c.in-Admitted.m c.in-Admitted.n c.in-Admitted.nd
+granted : (c : In-Ok) → ReceiveInOrder (frame_of c.khz50_device-d.result (plan_of c.args.plan.now)) ((at c.args.state (cells_of c.args.store.now))) (arriving [] (cells_of c.args.symbol.now) (cells_of c.args.buffer.now)) c.in-Ok.a.depth c.in-Ok.a.cells c.in-Ok.a.count
 granted c =
     let g = c in
-    admitted c.khz50_device-d.result g.args.plan.now ((at g.args.state (cells_of g.args.store.now))) ((arriving g.args.profile.now (cells_of g.args.symbol.now) (cells_of g.args.buffer.now))) _ _ _ (sym c.in-Admitted.is ∙ (let it : c.admit.result ≡ admission c.khz50_device-d.result c.args.plan.now ((at c.args.state (cells_of c.args.store.now))) ((arriving c.args.profile.now (cells_of c.args.symbol.now) (cells_of c.args.buffer.now))) = let a = c.args in let read = c.read_first-width in c.admit.ensures.answer (cells_of a.store.now) (cells_of a.symbol.now) (cells_of a.buffer.now) (length_cells a.store.now) (record { number = sym read.ensures.number; read = λ h. read.ensures.read (omega (arith, h, read.auto.cells)) }) (length_cells a.buffer.now) in it)) (c.admit.ensures.made _ _ _ c.in-Admitted.is).shallow
+    admitted c.khz50_device-d.result g.args.plan.now ((at g.args.state (cells_of g.args.store.now))) ((arriving g.args.profile.now (cells_of g.args.symbol.now) (cells_of g.args.buffer.now))) _ _ _ (sym c.in-Ok.is ∙ (let it : c.admit.result ≡ admission c.khz50_device-d.result c.args.plan.now ((at c.args.state (cells_of c.args.store.now))) ((arriving c.args.profile.now (cells_of c.args.symbol.now) (cells_of c.args.buffer.now))) = let a = c.args in let read = c.read_first-width in c.admit.ensures.answer (cells_of a.store.now) (cells_of a.symbol.now) (cells_of a.buffer.now) (length_cells a.store.now) (record { number = sym read.ensures.number; read = λ h. read.ensures.read (omega (arith, h, read.auto.cells)) }) (length_cells a.buffer.now) in it)) (c.admit.ensures.made _ _ _ c.in-Ok.is).shallow
 
 -- the arriving cells fill their array
-arrived : (c : In-Admitted) → c.read_first-width.new.cells ≡ cells_of c.args.symbol.now
+arrived : (c : In-Ok) → c.read_first-width.new.cells ≡ cells_of c.args.symbol.now
 unfolding frame_of
 arrived c =
     let read = c.read_first-width in
@@ -78,11 +78,11 @@ admit-requires c =
 pub slice_bounds-hear-end : goal.slice_bounds-hear-end
 slice_bounds-hear-end c = sym c.admit.auto.kc
 
-pub slice_bounds-hear-end-in-Admitted : goal.slice_bounds-hear-end-in-Admitted
-slice_bounds-hear-end-in-Admitted c = sym c.admit.auto.flag
+pub slice_bounds-hear-end-in-Ok : goal.slice_bounds-hear-end-in-Ok
+slice_bounds-hear-end-in-Ok c = sym c.admit.auto.flag
 
-pub slice_bounds-hear-end-in-Admitted-2 : goal.slice_bounds-hear-end-in-Admitted-2
-slice_bounds-hear-end-in-Admitted-2 c = sym c.read_first-width.auto.cells
+pub slice_bounds-hear-end-in-Ok-2 : goal.slice_bounds-hear-end-in-Ok-2
+slice_bounds-hear-end-in-Ok-2 c = sym c.read_first-width.auto.cells
 
 pub hear-requires : goal.hear-requires
 hear-requires c =
@@ -91,14 +91,14 @@ hear-requires c =
       fits (goal.at.hear-requires c).After-khz50_device-d,
       g.requires.0,
       g.requires.2,
-      subst (λ (y : List ℕ). ReceiveInOrder (frame_of d.khz50_device-d.result (plan_of g.args.plan.now)) ((at g.args.state (cells_of g.args.store.now))) (arriving [] y (cells_of g.args.buffer.now)) c.in-Admitted.m c.in-Admitted.n c.in-Admitted.nd) (sym (arrived (goal.at.hear-requires c).In-Admitted)) (granted (goal.at.hear-requires c).In-Admitted),
-      c.admit.ensures.made _ _ _ c.in-Admitted.is,
+      subst (λ (y : List ℕ). ReceiveInOrder (frame_of d.khz50_device-d.result (plan_of g.args.plan.now)) ((at g.args.state (cells_of g.args.store.now))) (arriving [] y (cells_of g.args.buffer.now)) c.in-Ok.a.depth c.in-Ok.a.cells c.in-Ok.a.count) (sym (arrived (goal.at.hear-requires c).In-Ok)) (granted (goal.at.hear-requires c).In-Ok),
+      c.admit.ensures.made _ _ _ c.in-Ok.is,
     )
 
-pub returns-in-Refused : goal.returns-in-Refused
-returns-in-Refused c =
+pub returns-in-Err : goal.returns-in-Err
+returns-in-Err c =
     let g = c in
-    as_bytes _ _ _ _ _ _ (sym g.requires.0) (sym g.requires.2) (refused c.khz50_device-d.result g.args.plan.now ((at g.args.state (cells_of g.args.store.now))) ((arriving g.args.profile.now (cells_of g.args.symbol.now) (cells_of g.args.buffer.now))) _ _ (sym c.in-Refused.is ∙ answer (goal.at.returns-in-Refused c).After-admit) ∙ stepped (goal.at.returns-in-Refused c).After-khz50_device-d)
+    as_bytes _ _ _ _ _ _ (sym g.requires.0) (sym g.requires.2) (refused c.khz50_device-d.result g.args.plan.now ((at g.args.state (cells_of g.args.store.now))) ((arriving g.args.profile.now (cells_of g.args.symbol.now) (cells_of g.args.buffer.now))) _ _ (sym c.in-Err.is ∙ answer (goal.at.returns-in-Err c).After-admit) ∙ stepped (goal.at.returns-in-Err c).After-khz50_device-d)
 
 pub shape_of-store : goal.shape_of-store
 shape_of-store c = c.hear.auto.store
@@ -106,12 +106,12 @@ shape_of-store c = c.hear.auto.store
 pub shape_of-buffer : goal.shape_of-buffer
 shape_of-buffer c = c.hear.auto.buffer
 
-pub returns-in-Admitted : goal.returns-in-Admitted
-returns-in-Admitted c =
+pub returns-in-Ok : goal.returns-in-Ok
+returns-in-Ok c =
     let g = c in
     let d = c.khz50_device-d.result in
     c.hear.ensures
     ∙ ap heard_bytes
-    (ap (λ (y : List ℕ). received (frame_of d (plan_of g.args.plan.now)) ((at g.args.state (cells_of g.args.store.now))) (arriving [] y (cells_of g.args.buffer.now))) (arrived (goal.at.returns-in-Admitted c).In-Admitted)
-    ∙ none_refuses d g.args.plan.now ((at g.args.state (cells_of g.args.store.now))) ((arriving g.args.profile.now (cells_of g.args.symbol.now) (cells_of g.args.buffer.now))) _ _ _ (sym c.in-Admitted.is ∙ answer (goal.at.returns-in-Admitted c).After-admit)
-    ∙ stepped (goal.at.returns-in-Admitted c).After-khz50_device-d)
+    (ap (λ (y : List ℕ). received (frame_of d (plan_of g.args.plan.now)) ((at g.args.state (cells_of g.args.store.now))) (arriving [] y (cells_of g.args.buffer.now))) (arrived (goal.at.returns-in-Ok c).In-Ok)
+    ∙ none_refuses d g.args.plan.now ((at g.args.state (cells_of g.args.store.now))) ((arriving g.args.profile.now (cells_of g.args.symbol.now) (cells_of g.args.buffer.now))) _ _ _ (sym c.in-Ok.is ∙ answer (goal.at.returns-in-Ok c).After-admit)
+    ∙ stepped (goal.at.returns-in-Ok c).After-khz50_device-d)

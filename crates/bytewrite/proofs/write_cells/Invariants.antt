@@ -1,13 +1,10 @@
 -- `bytewrite::write_cells` meets its contract. The loop has written the first i cells. Assumes nothing.
-use Prim.Native.Nat.{◌-◌, ◌*◌, ◌≤◌}
+use Prim.Native.Nat.{◌*◌}
 use mathlib.Core.Path.{◌≡◌}
-use lib.ListN.{length, take}
+use lib.ListN.{take}
 use lib.Seq.{sets}
 use Rattle.bytecells.specs.Octets.{bytes_of}
 use Rattle.bytewrite.proofs.write_cells.Given as goal
 
 abbrev pub invariant-loop-i : goal.invariant-loop-i
-invariant-loop-i l = (l.i ≤ length l.x) × (length l.b ≡ length l.initial.b) × (l.b ≡ sets l.initial.b (2 * l.at) (bytes_of (take l.i l.x)))
-
-abbrev pub decreases-loop-i : goal.decreases-loop-i
-decreases-loop-i l = length l.x - l.i
+invariant-loop-i l = l.b ≡ sets l.initial.b (2 * l.at) (bytes_of (take l.i l.x))

@@ -3,7 +3,7 @@ use Prim.Native.Nat.{ℕ, ◌≤◌}
 use mathlib.Core.Path.{◌≡◌, refl, sym, ap, ◌∙◌}
 use native.Mathlib.Omega.{arith}
 use Rattle.rules.specs.declared.Device.{Device}
-use Rattle.rules.specs.declared.CountAnswer.TheVariants.{Count}
+use Rattle.std.specs.Prelude.{Ok}
 use Rattle.rules.specs.Plan.{Plan, plan_of}
 use Rattle.rules.specs.Fits.{Fits, capacity}
 use Rattle.rules.specs.Frame.{frame_of, cells}
@@ -55,4 +55,4 @@ pub returns : goal.returns
 unfolding frame_of
 returns c =
     let a = c.args in
-    ap Count c.prepare-n.ensures.number ∙ count_is (frame_of a.d (plan_of a.plan.now)) a.phase (omega (arith, c.if-j-ge-PHASES.false))
+    ap Ok c.prepare-n.ensures.number ∙ count_is (frame_of a.d (plan_of a.plan.now)) a.phase (omega (arith, c.if-j-ge-PHASES.false))

@@ -2,7 +2,7 @@
 use mathlib.Core.Path.{refl, sym, ap, subst, ◌∙◌}
 use native.Mathlib.Omega.{arith}
 use Rattle.rules.specs.declared.Device.{Device}
-use Rattle.rules.specs.declared.Verdict.{Verdict}
+use Rattle.rules.specs.Refusals.{Verdict}
 use Rattle.rules.specs.Device.{khz50}
 use Rattle.rules.specs.Plan.{plan_of}
 use Rattle.rules.specs.Grounds.{verdict}
@@ -13,6 +13,7 @@ use Rattle.rules.proofs.Sizes.{khz50_fits}
 use Rattle.verdicts.specs.Studied.{StudiedIf}
 use Rattle.verdicts.proofs.Verdicts.{no_ground}
 use Rattle.facts.proofs.Accepted.{depth_in}
+use Rattle.rules.proofs.Findings.{passed_on}
 use Rattle.rules.proofs.Answered.{accepted_cells}
 use Rattle.cells.proofs.Answers.{count_refused, count_left}
 use Rattle.cells.proofs.data_count.Goals as goal
@@ -25,7 +26,7 @@ count_in-requires c =
     let s = c.args.plan.now in
     let device = c.khz50_device-d in
     let study = c.study in
-    let told = c.in-Accepted.is in
+    let told = c.in_ok-ni.was in
     let judged = sym told ∙ study.ensures.0 in
     let deep = depth_in khz50 s (no_ground khz50 s _ (judged ∙ ap (λ (d : Device). verdict d s) device.ensures)) in (
       subst Fits (sym device.ensures) khz50_fits,
@@ -35,15 +36,15 @@ count_in-requires c =
       accepted_cells device.result s _ judged,
     )
 
-pub returns-in-Refused : goal.returns-in-Refused
-returns-in-Refused c =
+pub returns-in_err-ni : goal.returns-in_err-ni
+returns-in_err-ni c =
     let a = c.args in
-    count_refused khz50 a.plan.now a.phase _ _ (sym c.in-Refused.is ∙ c.study.ensures.0 ∙ ap (λ (d : Device). verdict d a.plan.now) c.khz50_device-d.ensures)
+    rw (passed_on _ c.from_residual.ensures) (count_refused khz50 a.plan.now a.phase _ (sym c.in_err-ni.was ∙ c.study.ensures.0 ∙ ap (λ (d : Device). verdict d a.plan.now) c.khz50_device-d.ensures))
 
-pub returns-in-Accepted : goal.returns-in-Accepted
-returns-in-Accepted c =
+pub returns : goal.returns
+returns c =
     let a = c.args in
     let device = c.khz50_device-d in
     let study = c.study in
     c.count_in.ensures ∙ ap (λ (d : Device). frame_count (frame_of d (plan_of a.plan.now)) a.phase) device.ensures
-    ∙ count_left khz50 a.plan.now a.phase _ (sym c.in-Accepted.is ∙ study.ensures.0 ∙ ap (λ (d : Device). verdict d a.plan.now) device.ensures)
+    ∙ count_left khz50 a.plan.now a.phase _ (sym c.in_ok-ni.was ∙ study.ensures.0 ∙ ap (λ (d : Device). verdict d a.plan.now) device.ensures)

@@ -11,30 +11,25 @@ use Rattle.commutator.proofs.pass.Goals.{At-loop-q}
 
 -- the lines lie within the store
 fits : (c : At-loop-q) → line_begins c.ceiling-j.result c.args.m ≤ length c.loop-q.store
-fits c =
-    let g = c in
-    omega (arith, ap (λ (k : ℕ). line_begins k g.args.m) c.ceiling-j.ensures.0, g.requires.3, c.loop-q.invariant.1.places)
+fits c = omega (arith, ap (λ (k : ℕ). line_begins k c.args.m) c.ceiling-j.ensures.0, c.requires.3, c.loop-q.invariant.places)
 
 pub loop-q-init : goal.loop-q-init
-loop-q-init c = let a = c.args in (omega arith, gone_none c.ceiling-j.result a.m a.store.now a.cells.now)
+loop-q-init c = gone_none _ _ _ _
 
 pub turn-requires : goal.turn-requires
-turn-requires c =
-    let g = c in
-    (g.requires.0, g.requires.1, c.ceiling-j.ensures.1, c.loop-q-test.true, fits (goal.at.turn-requires c).At-loop-q)
+turn-requires c = (c.requires.0, c.requires.1, c.ceiling-j.ensures.1, c.loop-q-test.true, fits (goal.at.turn-requires c).At-loop-q)
 
 pub loop-q-preserved : goal.loop-q-preserved
-loop-q-preserved c = (omega (arith, c.loop-q-test.true), c.turn.ensures _ _ c.loop-q.invariant.1)
+loop-q-preserved c = c.turn.ensures _ _ c.loop-q.invariant
 
 pub rotate_lines-requires : goal.rotate_lines-requires
-rotate_lines-requires c =
-    let g = c in
-    (g.requires.0, g.requires.1, c.ceiling-j.ensures.1, fits (goal.at.rotate_lines-requires c).At-loop-q)
+rotate_lines-requires c = (c.requires.0, c.requires.1, c.ceiling-j.ensures.1, fits (goal.at.rotate_lines-requires c).At-loop-q)
 
 pub returns : goal.returns
 returns c =
-    let g = c in
-    let a = g.args in
+    let a = c.args in
     let j = c.ceiling-j in
     let l = c.loop-q in
-    record { stored = (symbol_is a.m j.result g.requires.0 a.store.now a.cells.now _ _ _ j.ensures.0 g.requires.3 (gone_all j.result a.m a.store.now a.cells.now l.q l.store l.cells l.invariant.0 c.loop-q-test.false l.invariant.1) c.rotate_lines.ensures).0; sent = (symbol_is a.m j.result g.requires.0 a.store.now a.cells.now _ _ _ j.ensures.0 g.requires.3 (gone_all j.result a.m a.store.now a.cells.now l.q l.store l.cells l.invariant.0 c.loop-q-test.false l.invariant.1) c.rotate_lines.ensures).1 }
+    let gone = gone_all j.result a.m a.store.now a.cells.now l.q l.store l.cells (omega arith) c.loop-q-test.false l.invariant in
+    let is = symbol_is a.m j.result c.requires.0 a.store.now a.cells.now _ _ _ j.ensures.0 c.requires.3 gone c.rotate_lines.ensures in
+    record { stored = is.0; sent = is.1 }

@@ -3,10 +3,7 @@ use mathlib.Core.Path.{◌∙◌}
 use native.Mathlib.Omega.{arith}
 use Rattle.coordinates.proofs.Entries.{Sizes, sizes}
 use Rattle.coordinates.proofs.RowLaws.{rows_odd}
-use mathlib.Core.Path.{◌∙◌}
 use native.Mathlib.Omega.{arith}
-use Rattle.coordinates.proofs.Entries.{Sizes, sizes}
-use Rattle.coordinates.proofs.RowLaws.{rows_odd}
 use Rattle.coordinates.proofs.fill_cross.Goals as goal
 use Rattle.coordinates.proofs.fill_cross.Goals.{After-power-s}
 

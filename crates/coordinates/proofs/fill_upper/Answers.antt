@@ -1,61 +1,50 @@
 -- `coordinates::fill_upper` meets its contract. Assumes nothing.
-use Prim.Native.Nat.{ℕ, ◌+◌, ◌^◌, ◌<◌}
-use mathlib.Core.Path.{◌≡◌, ap, ◌∙◌, subst}
+use mathlib.Core.Path.{◌≡◌, ap, ◌∙◌}
+use Prim.Native.Nat.{◌<◌}
 use native.Mathlib.Omega.{arith}
 use mir.Syntax.{w32}
 use mir.Val.{to_z, of_z}
 use mir.ValLaws.{to_z_pos}
-use lib.ListN.{get_or}
 use lib.IntN.{pos, nat_abs}
 use Rattle.gray.specs.Gray.{gray}
 use Rattle.gray.proofs.GrayLaws.{gray_in}
 use Rattle.points.specs.declared.Point.{Point}
 use Rattle.points.specs.Points.{cross}
 use Rattle.points.proofs.Machine.{small_fits, through}
-use Rattle.coordinates.specs.Table.{times, Written}
+use Rattle.coordinates.specs.Table.{times}
 use Rattle.coordinates.proofs.Entries.{read, small_x}
-use Rattle.coordinates.proofs.Writing.{written_none, written_next}
+use Rattle.coordinates.proofs.Writing.{written_next}
 use Rattle.coordinates.proofs.fill_upper.Goals as goal
-use Rattle.coordinates.proofs.fill_upper.Goals.{After-crossed-arg-1, After-struct_told-1}
+use Rattle.coordinates.proofs.fill_upper.Goals.{After-crossed}
 
--- the Gray value that is read
-value : (c : After-crossed-arg-1) → to_z w32 (of_z w32 (get_or c.args.w.now (c.power-p.result + c.loop-k.k) (pos 0))) ≡ gray c.args.bits c.loop-k.k
-value c = let g = c in read g.args.w.now g.requires.1 g.args.bits c.power-p.result c.loop-k.k g.requires.2 c.power-p.ensures c.loop-k-test.true
-
-small : (c : After-struct_told-1) → nat_abs (cross c.args.s (gray c.args.bits c.loop-k.k) (pos c.args.q)).x < 128
+-- the coordinate is small
+small : (c : After-crossed) → nat_abs (cross c.args.s (gray c.args.bits c.loop-k.k) (pos c.args.q)).x < 128
 small c =
-    let g = c in
-    small_x g.args.s g.requires.4 (gray g.args.bits c.loop-k.k) (pos g.args.q) (omega (arith, gray_in g.args.bits c.loop-k.k, g.requires.5)) g.requires.6
-
--- its coordinate
-coordinate : (c : After-struct_told-1) → to_z w32 (of_z w32 c.crossed-c.result.x) ≡ (cross c.args.s (gray c.args.bits c.loop-k.k) (pos c.args.q)).x
-coordinate c =
-    let g = c in
+    let a = c.args in
     let k = c.loop-k.k in
-    through (small_fits (cross g.args.s (gray g.args.bits k) (pos g.args.q)).x (omega (arith, small c))) (ap (λ (p : Point). p.x) ((let it : c.crossed-c.result ≡ cross c.args.s (gray c.args.bits c.loop-k.k) (pos c.args.q) = let g = c in c.crossed-c.ensures ∙ (λ j. cross g.args.s ((let it : to_z w32 (of_z w32 (get_or c.args.w.now (c.power-p.result + c.loop-k.k) (pos 0))) ≡ gray c.args.bits c.loop-k.k = let g = c in read g.args.w.now g.requires.1 g.args.bits c.power-p.result c.loop-k.k g.requires.2 c.power-p.ensures c.loop-k-test.true in it) j) (to_z_pos w32 g.args.q (omega (arith, g.requires.4, g.requires.6)) j)) in it)))
+    small_x a.s c.requires.4 (gray a.bits k) (pos a.q) (omega (arith, gray_in a.bits k, c.requires.5)) c.requires.6
 
-pub loop-k-init : goal.loop-k-init
-loop-k-init c = (omega arith, written_none _ _ _)
+-- it is what was reckoned
+coordinate : (c : After-crossed) → to_z w32 (of_z w32 c.crossed.result.x) ≡ (cross c.args.s (gray c.args.bits c.loop-k.k) (pos c.args.q)).x
+coordinate c =
+    let a = c.args in
+    let k = c.loop-k.k in
+    let v = read a.w.now c.requires.1 a.bits c.power-p.result k c.requires.2 c.power-p.ensures c.loop-k-test.true in
+    let z = to_z_pos w32 a.q (omega (arith, c.requires.4, c.requires.6)) in
+    through (small_fits (cross a.s (gray a.bits k) (pos a.q)).x (omega (arith, small c))) (ap (λ (p : Point). p.x) (c.crossed.ensures ∙ (λ j. cross a.s (v j) (z j))))
 
-pub crossed-c-requires : goal.crossed-c-requires
-crossed-c-requires c =
-    let g = c in
-    let z = to_z_pos w32 g.args.q (omega (arith, g.requires.4, g.requires.6)) in
-    let h = gray_in g.args.bits c.loop-k.k in
-    (g.requires.4, rw (value c) (omega (arith, g.requires.5)), rw z g.requires.6)
+pub crossed-requires : goal.crossed-requires
+crossed-requires c =
+    let a = c.args in
+    let v = read a.w.now c.requires.1 a.bits c.power-p.result c.loop-k.k c.requires.2 c.power-p.ensures c.loop-k-test.true in
+    let z = to_z_pos w32 a.q (omega (arith, c.requires.4, c.requires.6)) in
+    (c.requires.4, rw v (omega (arith, gray_in a.bits c.loop-k.k, c.requires.5)), rw z c.requires.6)
 
-pub scale-v-requires : goal.scale-v-requires
-scale-v-requires c = rw (coordinate c) (small c)
+pub scale-requires : goal.scale-requires
+scale-requires c = let d = (goal.at.scale-requires c).After-crossed in rw (coordinate d) (small d)
 
 pub loop-k-preserved : goal.loop-k-preserved
 loop-k-preserved c =
-    let g = c in
     let l = c.loop-k in
-    (omega arith, written_next _ _ _ l.k l.t l.invariant.1 _ (c.scale-v.ensures ∙ ap (times g.args.f) (coordinate (goal.at.loop-k-preserved c).After-struct_told-1)) (omega (arith, g.requires.0, g.requires.3, g.requires.4, g.requires.5, c.loop-k-test.true, c.power-p.ensures)))
-
-pub returns : goal.returns
-returns c =
-    let g = c in
-    let l = c.loop-k in
-    let e : l.k ≡ 2 ^ c.args.bits = omega (arith, c.power-p.ensures) in
-    subst (λ (n : ℕ). Written g.args.t.now g.args.at n (λ k. times g.args.f (cross g.args.s (gray g.args.bits k) (pos g.args.q)).x) l.t) e l.invariant.1
+    written_next _ _ _ l.k l.t l.invariant _ (c.scale.ensures ∙ ap (times c.args.f) (coordinate (goal.at.loop-k-preserved c).After-crossed))
+    (omega (arith, c.requires.0, c.requires.3, c.requires.4, c.requires.5, c.loop-k-test.true, c.power-p.ensures))

@@ -1,5 +1,4 @@
 -- `coordinates::fill_upper` meets its contract. Assumes nothing.
-use Prim.Native.Nat.{◌-◌, ◌≤◌}
 use lib.IntN.{pos}
 use Rattle.gray.specs.Gray.{gray}
 use Rattle.points.specs.Points.{cross}
@@ -7,7 +6,4 @@ use Rattle.coordinates.specs.Table.{times, Written}
 use Rattle.coordinates.proofs.fill_upper.Given as goal
 
 abbrev pub invariant-loop-k : goal.invariant-loop-k
-invariant-loop-k l = (l.k ≤ l.p) × Written l.initial.t l.at l.k (λ x. times l.f (cross l.s (gray l.bits x) (pos l.q)).x) l.t
-
-abbrev pub decreases-loop-k : goal.decreases-loop-k
-decreases-loop-k l = l.p - l.k
+invariant-loop-k l = Written l.initial.t l.at l.k (λ x. times l.f (cross l.s (gray l.bits x) (pos l.q)).x) l.t

@@ -6,8 +6,7 @@ use lib.IntN.{pos}
 use lib.ListN.{get_or}
 use lib.Pow.{pow_mono}
 use Rattle.gray.specs.Gray.{gray}
-use Rattle.gray.proofs.GrayLaws.{small_power}
-use Rattle.coordinates.proofs.GrayTable.{sum_fits, sum_is, less_fits, less_is, doubled_start, source, doubled_next, doubled_all}
+use Rattle.coordinates.proofs.GrayTable.{sum_fits, sum_is, less_fits, less_is, source, doubled_next}
 use Rattle.coordinates.proofs.gray_row.Goals as goal
 use Rattle.coordinates.proofs.gray_row.Goals.{In-loop-k}
 
@@ -20,28 +19,13 @@ room c =
 
 -- the value of n bits that is read
 value : (c : In-loop-k) → get_or c.loop-k.w c.loop-k.k (pos 0) ≡ gray c.args.n (c.loop-k.k - 2 ^ c.args.n)
-value c = source _ _ c.loop-k.k c.loop-k.invariant.1 (omega (arith, c.power-p.ensures))
-
-pub overflow_cast-step : goal.overflow_cast-step
-overflow_cast-step c = record { sfits = omega (arith, small_power c.args.n (omega arith)) }
-
-pub loop-k-init : goal.loop-k-init
-loop-k-init c = (omega arith, doubled_start _ _ c.requires.0 c.requires.2 _ c.power-p.ensures)
-
-pub bounds-w-k : goal.bounds-w-k
-bounds-w-k c = omega (arith, room c)
+value c = source _ _ c.loop-k.k c.loop-k.invariant (omega (arith, c.power-p.ensures))
 
 pub overflow_add-c : goal.overflow_add-c
 overflow_add-c c = sum_fits c.args.n _ _ c.requires.1 c.power-p.ensures _ (value (goal.at.overflow_add-c c).In-loop-k)
 
-pub bounds-w-k-in-loop-k : goal.bounds-w-k-in-loop-k
-bounds-w-k-in-loop-k c = omega (arith, room (goal.at.bounds-w-k-in-loop-k c).In-loop-k)
-
 pub overflow_sub-w : goal.overflow_sub-w
 overflow_sub-w c = less_fits c.args.n _ _ c.requires.1 c.power-p.ensures _ (value (goal.at.overflow_sub-w c).In-loop-k)
-
-pub bounds-w-k-in-loop-k-2 : goal.bounds-w-k-in-loop-k-2
-bounds-w-k-in-loop-k-2 c = room (goal.at.bounds-w-k-in-loop-k-2 c).In-loop-k
 
 pub loop-k-preserved : goal.loop-k-preserved
 loop-k-preserved c =
@@ -49,7 +33,4 @@ loop-k-preserved c =
     let few = c.requires.1 in
     let power = c.power-p.ensures in
     let v = value (goal.at.loop-k-preserved c).In-loop-k in
-    (omega arith, doubled_next n _ _ c.loop-k.invariant.1 (omega arith) _ _ (sum_is n _ _ few power _ v) (less_is n _ _ few power _ v) (room (goal.at.loop-k-preserved c).In-loop-k))
-
-pub returns : goal.returns
-returns c = (c.loop-k.invariant.1.long, doubled_all _ _ c.loop-k.k c.loop-k.invariant.1 (omega (arith, c.power-p.ensures)))
+    doubled_next n _ _ c.loop-k.invariant (omega arith) _ _ (sum_is n _ _ few power _ v) (less_is n _ _ few power _ v) (room (goal.at.loop-k-preserved c).In-loop-k)

@@ -1,12 +1,9 @@
 -- `coordinates::gray_rows` meets its contract. Assumes nothing.
-use Prim.Native.Nat.{suc, ◌-◌, ◌≤◌}
+use Prim.Native.Nat.{suc}
 use mathlib.Core.Path.{◌≡◌}
 use lib.ListN.{length}
 use Rattle.coordinates.specs.Table.{GrayRows}
 use Rattle.coordinates.proofs.gray_rows.Given as goal
 
 abbrev pub invariant-loop-n : goal.invariant-loop-n
-invariant-loop-n l = (l.n ≤ 7) × (length l.w ≡ 256) × GrayRows (suc l.n) l.w
-
-abbrev pub decreases-loop-n : goal.decreases-loop-n
-decreases-loop-n l = 7 - l.n
+invariant-loop-n l = (length l.w ≡ 256) × GrayRows (suc l.n) l.w

@@ -8,15 +8,6 @@ use Rattle.counting.proofs.Lists.{get_d_tabulate}
 use Rattle.rules.specs.Loads.{load_limit}
 use Rattle.datalimit.proofs.cell_limit.Goals as goal
 
-pub bounds-profile-k : goal.bounds-profile-k
-bounds-profile-k c = omega (arith, c.wide-k.ensures.0, c.requires.3)
-
-pub offset_bounds-limits-load_index : goal.offset_bounds-limits-load_index
-offset_bounds-limits-load_index c = omega (arith, c.load_index.ensures, c.requires.4 c.wide-k.result)
-
-pub bounds-limits-load_index : goal.bounds-limits-load_index
-bounds-limits-load_index c = omega (arith, c.load_index.ensures, c.requires.4 c.wide-k.result)
-
 pub returns : goal.returns
 returns c =
     let a = c in

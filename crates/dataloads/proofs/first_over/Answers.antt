@@ -15,19 +15,13 @@ use Rattle.dataloads.proofs.first_over.Goals.{After-wide}
 
 -- a load is at most 14, and the table has its limit
 small : (c : After-wide) → c.wide.result ≤ 14
-small c = let g = c in omega (arith, c.wide.ensures.0, g.requires.2 c.loop-i.i (omega (arith, g.requires.1, c.loop-i-test.true)))
+small c = let g = c in omega (arith, c.wide.ensures.0, g.requires.2 c.loop-i.i (omega (arith, g.requires.1)))
 
 limit : (c : After-wide) → let l = c.wide.result in get_or (tabulate load_limit 15) l 0 ≡ load_limit (get_or c.args.loads.now c.loop-i.i 0)
 limit c = get_d_tabulate load_limit 15 0 c.wide.result (omega (arith, small c)) ∙ ap load_limit c.wide.ensures.0
 
 pub loop-i-init : goal.loop-i-init
-loop-i-init c = (omega arith, lowest_zero _)
-
-pub offset_bounds-limits-wide : goal.offset_bounds-limits-wide
-offset_bounds-limits-wide c = omega (arith, small c)
-
-pub bounds-limits-wide : goal.bounds-limits-wide
-bounds-limits-wide c = omega (arith, small c)
+loop-i-init c = lowest_zero _
 
 pub returns-then-limits-wide : goal.returns-then-limits-wide
 unfolding tabulate load_limit point_load
@@ -35,7 +29,7 @@ returns-then-limits-wide c =
     let a = c.args in
     let l = c.loop-i in
     let over : load_limit (get_or a.loads.now l.i 0) < get_or a.ds.now l.i 0 = omega (arith, limit (goal.at.returns-then-limits-wide c).After-wide, c.if-limits-wide.true) in
-    sym (lowest_here (λ k. ltb (load_limit (get_or a.loads.now k 0)) (get_or a.ds.now k 0)) l.i (length a.ds.now) c.loop-i-test.true l.invariant.1
+    sym (lowest_here (λ k. ltb (load_limit (get_or a.loads.now k 0)) (get_or a.ds.now k 0)) l.i (length a.ds.now) (omega arith) l.invariant
     (lt-ltb _ _ over))
 
 pub loop-i-preserved : goal.loop-i-preserved
@@ -44,10 +38,4 @@ loop-i-preserved c =
     let a = c.args in
     let l = c.loop-i in
     let fits : get_or a.ds.now l.i 0 ≤ load_limit (get_or a.loads.now l.i 0) = omega (arith, limit (goal.at.loop-i-preserved c).After-wide, c.if-limits-wide.false) in
-    (omega arith, rw add-one (lowest_on (λ k. ltb (load_limit (get_or a.loads.now k 0)) (get_or a.ds.now k 0)) l.i l.invariant.1 (le-ltb _ _ fits)))
-
-pub returns : goal.returns
-returns c =
-    let l = c.loop-i in
-    let e : l.i ≡ length c.args.ds.now = omega arith in
-    sym (rw e at l.invariant.1)
+    rw add-one (lowest_on (λ k. ltb (load_limit (get_or a.loads.now k 0)) (get_or a.ds.now k 0)) l.i l.invariant (le-ltb _ _ fits))

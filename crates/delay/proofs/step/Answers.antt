@@ -1,11 +1,10 @@
 -- `delay::step` meets its contract. Assumes nothing.
-use mathlib.Core.Path.{◌≡◌, ap, ◌∙◌}
+use mathlib.Core.Path.{◌≡◌}
 use Prim.Native.Nat.{◌-◌}
 use Rattle.rules.specs.Places.{moved, oldest}
 use Rattle.exchange.specs.Exchange.{end_delay}
 use native.Mathlib.Omega.{arith}
-use lib.ListN.{length, set, length-set}
-use Rattle.delay.proofs.Shifts.{length_shifted}
+use lib.ListN.{length, set}
 use Rattle.delay.proofs.Steps.{stepped, still}
 use Rattle.exchange.proofs.Groups.{deep}
 use Rattle.delay.proofs.step.Goals as goal
@@ -23,10 +22,6 @@ pub pass-last-requires : goal.pass-last-requires
 pass-last-requires c =
     let g = c in
     (deep g.args.emitter g.args.m (length g.args.cells.now) g.requires.0 (omega (arith, g.requires.3, c.if-places-eq0.false)), g.requires.1, g.requires.2, omega (arith, g.requires.3, g.requires.4))
-
-pub shape_of-store : goal.shape_of-store
-shape_of-store c =
-    simp length-set (ap length c.shift.ensures ∙ length_shifted _ _ ∙ c.pass-last.ensures.places)
 
 pub returns : goal.returns
 returns c =

@@ -7,8 +7,8 @@ use native.Mathlib.Omega.{arith}
 use lib.ListN.{length, take, drop}
 use lib.Seq.{length-take-le, length_front, take_at, take-length}
 use Rattle.rules.specs.declared.Device.{Device}
-use Rattle.rules.specs.declared.Verdict.{Verdict}
-use Rattle.rules.specs.declared.Verdict.TheVariants.{Accepted}
+use Rattle.rules.specs.Refusals.{Verdict}
+use Rattle.std.specs.Prelude.{Ok}
 use Rattle.rules.specs.Fits.{Fits, capacity}
 use Rattle.rules.specs.Plan.{plan_of}
 use Rattle.rules.specs.Frame.{frame_of, line_symbol}
@@ -21,41 +21,39 @@ use Rattle.sending.specs.Sent.{given_by, at, giving, step_by}
 use Rattle.sendgrounds.specs.Opening.{SendOpens}
 use Rattle.sendgrounds.proofs.Answers.{refused, fit, sent}
 use Rattle.emitter.proofs.send.Goals as goal
-use Rattle.emitter.proofs.send.Goals.{After-admit, After-delay, After-number_at-m, In-Accepted}
+use Rattle.emitter.proofs.send.Goals.{After-admit, After-delay, After-number_at-m, In-Ok}
 
-said : (c : After-admit) → (let g = c in let last = c.admit.new in SendOpens c.admit.result false c.khz50_device-d.result g.args.plan.now ((at g.args.state g.args.store.now)) ((giving (given_by g.args.flushing g.args.input.now) g.args.profile.now g.args.symbol.now)) last.marks last.car last.x)
-said c =
-    let a = c.args in
-    c.admit.ensures a.store.now a.input.now a.symbol.now refl refl (record { number = refl; read = λ _. take-length a.input.now })
+-- what `admit` answers, and what it has made
+said : (c : After-admit) → SendOpens c.admit.result false c.khz50_device-d.result c.args.plan.now (at c.args.state c.args.store.now) (giving (given_by c.args.flushing c.args.input.now) c.args.profile.now c.args.symbol.now) c.admit.new.marks c.admit.new.car c.admit.new.x
+said c = c.admit.ensures c.args.store.now c.args.input.now c.args.symbol.now refl refl (record { number = refl; read = λ _. take-length c.args.input.now })
 
-taken : (c : In-Accepted) → (let g = c in let last = c.admit.new in SendOpens (Accepted c.in-Accepted.n) false c.khz50_device-d.result g.args.plan.now ((at g.args.state g.args.store.now)) ((giving (given_by g.args.flushing g.args.input.now) g.args.profile.now g.args.symbol.now)) last.marks last.car last.x)
-taken c = subst ((λ (r : Verdict). let g = c in let last = c.admit.new in SendOpens r false c.khz50_device-d.result g.args.plan.now ((at g.args.state g.args.store.now)) ((giving (given_by g.args.flushing g.args.input.now) g.args.profile.now g.args.symbol.now)) last.marks last.car last.x)) c.in-Accepted.is ((let it : (let g = c in let last = c.admit.new in SendOpens c.admit.result false c.khz50_device-d.result g.args.plan.now ((at g.args.state g.args.store.now)) ((giving (given_by g.args.flushing g.args.input.now) g.args.profile.now g.args.symbol.now)) last.marks last.car last.x) = let a = c.args in c.admit.ensures a.store.now a.input.now a.symbol.now refl refl (record { number = refl; read = λ _. take-length a.input.now }) in it))
+taken : (c : In-Ok) → SendOpens (Ok c.in-Ok.n) false c.khz50_device-d.result c.args.plan.now (at c.args.state c.args.store.now) (giving (given_by c.args.flushing c.args.input.now) c.args.profile.now c.args.symbol.now) c.admit.new.marks c.admit.new.car c.admit.new.x
+taken c =
+    subst (λ (r : Verdict). SendOpens r false c.khz50_device-d.result c.args.plan.now (at c.args.state c.args.store.now) (giving (given_by c.args.flushing c.args.input.now) c.args.profile.now c.args.symbol.now) c.admit.new.marks c.admit.new.car c.admit.new.x) c.in-Ok.is
+    (c.admit.ensures c.args.store.now c.args.input.now c.args.symbol.now refl refl (record { number = refl; read = λ _. take-length c.args.input.now }))
 
 -- the cells fit the array
 size : (c : After-admit) → length c.admit.new.x ≡ capacity
 size c = c.admit.auto.x
 
-low : (c : In-Accepted) → c.in-Accepted.n ≤ capacity
+low : (c : In-Ok) → c.in-Ok.n ≤ capacity
 low c =
     let r = (taken c).1.ready in
     omega (arith, r.all, cells_low c.khz50_device-d.result (plan_of c.args.plan.now) r.fits)
 
 -- so many are the first ones
-part : (c : In-Accepted) → length (take c.in-Accepted.n c.admit.new.x) ≡ c.in-Accepted.n
-part c = length-take-le c.in-Accepted.n c.admit.new.x (omega (arith, low c, (let it : length c.admit.new.x ≡ capacity = c.admit.auto.x in it)))
+part : (c : In-Ok) → length (take c.in-Ok.n c.admit.new.x) ≡ c.in-Ok.n
+part c = length-take-le c.in-Ok.n c.admit.new.x (omega (arith, low c, c.admit.auto.x))
 
--- and stay so
-kept : (c : After-delay) → length c.delay.new.cells ≡ c.in-Accepted.n
-kept c = c.delay.auto.cells ∙ (let it : length (take c.in-Accepted.n c.admit.new.x) ≡ c.in-Accepted.n = length-take-le c.in-Accepted.n c.admit.new.x (omega (arith, (let it : c.in-Accepted.n ≤ capacity = let r = ((let it : (let g = c in let last = c.admit.new in SendOpens (Accepted c.in-Accepted.n) false c.khz50_device-d.result g.args.plan.now ((at g.args.state g.args.store.now)) ((giving (given_by g.args.flushing g.args.input.now) g.args.profile.now g.args.symbol.now)) last.marks last.car last.x) = subst ((λ (r : Verdict). let g = c in let last = c.admit.new in SendOpens r false c.khz50_device-d.result g.args.plan.now ((at g.args.state g.args.store.now)) ((giving (given_by g.args.flushing g.args.input.now) g.args.profile.now g.args.symbol.now)) last.marks last.car last.x)) c.in-Accepted.is ((let it : (let g = c in let last = c.admit.new in SendOpens c.admit.result false c.khz50_device-d.result g.args.plan.now ((at g.args.state g.args.store.now)) ((giving (given_by g.args.flushing g.args.input.now) g.args.profile.now g.args.symbol.now)) last.marks last.car last.x) = let a = c.args in c.admit.ensures a.store.now a.input.now a.symbol.now refl refl (record { number = refl; read = λ _. take-length a.input.now }) in it)) in it)).1.ready in omega (arith, r.all, cells_low c.khz50_device-d.result (plan_of c.args.plan.now) r.fits) in it), (let it : length c.admit.new.x ≡ capacity = c.admit.auto.x in it))) in it)
+-- and stay so, in an array that is whole again
+front : (c : After-delay) → length (take c.in-Ok.n c.admit.new.x) ≡ c.in-Ok.n → take c.in-Ok.n (c.delay.new.cells ++ drop c.in-Ok.n c.admit.new.x) ≡ c.delay.new.cells
+front c size = take_at c.delay.new.cells (drop c.in-Ok.n c.admit.new.x) c.in-Ok.n (c.delay.auto.cells ∙ size)
 
--- in an array that is whole again
-front : (c : After-delay) → take c.in-Accepted.n (c.delay.new.cells ++ drop c.in-Accepted.n c.admit.new.x) ≡ c.delay.new.cells
-front c = take_at c.delay.new.cells (drop c.in-Accepted.n c.admit.new.x) c.in-Accepted.n (kept c)
+-- grounds 16 and 17 are passed
+lent : (c : In-Ok) → Lent (frame_of c.khz50_device-d.result (plan_of c.args.plan.now)) c.args.state.phase (emitter_places (frame_of c.khz50_device-d.result (plan_of c.args.plan.now))) c.args.store.now c.args.symbol.now
+lent c = (fit false c.khz50_device-d.result c.args.plan.now (at c.args.state c.args.store.now) (giving (given_by c.args.flushing c.args.input.now) c.args.profile.now c.args.symbol.now) c.in-Ok.n (taken c).0).0
 
--- grounds 16 and 17 are passed, and m is the depth
-lent : (c : After-number_at-m) → let g = c in Lent ((frame_of c.khz50_device-d.result (plan_of c.args.plan.now))) g.args.state.phase (emitter_places ((frame_of c.khz50_device-d.result (plan_of c.args.plan.now)))) g.args.store.now g.args.symbol.now
-lent c = let g = c in (fit false c.khz50_device-d.result g.args.plan.now ((at g.args.state g.args.store.now)) ((giving (given_by g.args.flushing g.args.input.now) g.args.profile.now g.args.symbol.now)) c.in-Accepted.n ((let it : (let g = c in let last = c.admit.new in SendOpens (Accepted c.in-Accepted.n) false c.khz50_device-d.result g.args.plan.now ((at g.args.state g.args.store.now)) ((giving (given_by g.args.flushing g.args.input.now) g.args.profile.now g.args.symbol.now)) last.marks last.car last.x) = subst ((λ (r : Verdict). let g = c in let last = c.admit.new in SendOpens r false c.khz50_device-d.result g.args.plan.now ((at g.args.state g.args.store.now)) ((giving (given_by g.args.flushing g.args.input.now) g.args.profile.now g.args.symbol.now)) last.marks last.car last.x)) c.in-Accepted.is ((let it : (let g = c in let last = c.admit.new in SendOpens c.admit.result false c.khz50_device-d.result g.args.plan.now ((at g.args.state g.args.store.now)) ((giving (given_by g.args.flushing g.args.input.now) g.args.profile.now g.args.symbol.now)) last.marks last.car last.x) = let a = c.args in c.admit.ensures a.store.now a.input.now a.symbol.now refl refl (record { number = refl; read = λ _. take-length a.input.now }) in it)) in it)).0).0
-
+-- m is the depth
 deep : (c : After-number_at-m) → c.number_at-m.result ≡ (plan_of c.args.plan.now).depth
 unfolding plan_of
 deep c = c.number_at-m.ensures.0
@@ -69,57 +67,55 @@ pub number_at-m-requires : goal.number_at-m-requires
 number_at-m-requires c = omega (arith, (taken c).1.ready.studied.long)
 
 pub slice_bounds-x-end : goal.slice_bounds-x-end
-slice_bounds-x-end c = omega (arith, low (goal.at.slice_bounds-x-end c).In-Accepted, size (goal.at.slice_bounds-x-end c).After-admit)
+slice_bounds-x-end c = omega (arith, low (goal.at.slice_bounds-x-end c).In-Ok, size (goal.at.slice_bounds-x-end c).After-admit)
 
 pub slice_bounds-delay-end : goal.slice_bounds-delay-end
-slice_bounds-delay-end c = sym (part (goal.at.slice_bounds-delay-end c).In-Accepted)
+slice_bounds-delay-end c = sym (part (goal.at.slice_bounds-delay-end c).In-Ok)
 
 pub delay-requires : goal.delay-requires
 unfolding frame_of
 delay-requires c =
     let m = deep (goal.at.delay-requires c).After-number_at-m in
-    let r = (taken (goal.at.delay-requires c).In-Accepted).1.ready in
-    let x = part (goal.at.delay-requires c).In-Accepted in
-    let need = emitter_places_are ((frame_of c.khz50_device-d.result (plan_of c.args.plan.now))) _ _ m (x ∙ r.all) in
-    (omega (arith, m, r.deep), omega (arith, m, r.shallow), omega (arith, x, low (goal.at.delay-requires c).In-Accepted), omega (arith, need, (lent (goal.at.delay-requires c).After-number_at-m).places_fit))
+    let r = (taken (goal.at.delay-requires c).In-Ok).1.ready in
+    let x = part (goal.at.delay-requires c).In-Ok in
+    let need = emitter_places_are (frame_of c.khz50_device-d.result (plan_of c.args.plan.now)) _ _ m (x ∙ r.all) in
+    (omega (arith, m, r.deep), omega (arith, m, r.shallow), omega (arith, x, low (goal.at.delay-requires c).In-Ok), omega (arith, need, (lent (goal.at.delay-requires c).In-Ok).places_fit))
 
 pub slice_bounds-place-end : goal.slice_bounds-place-end
-slice_bounds-place-end c = sym (taken (goal.at.slice_bounds-place-end c).In-Accepted).1.whole
+slice_bounds-place-end c = sym (taken (goal.at.slice_bounds-place-end c).In-Ok).1.whole
 
-pub slice_bounds-x-end-in-Accepted : goal.slice_bounds-x-end-in-Accepted
-slice_bounds-x-end-in-Accepted c =
-    omega (arith, low (goal.at.slice_bounds-x-end-in-Accepted c).In-Accepted, size (goal.at.slice_bounds-x-end-in-Accepted c).After-admit, length_front c.admit.new.x c.delay.new.cells c.in-Accepted.n c.delay.auto.cells)
+pub slice_bounds-x-end-in-Ok : goal.slice_bounds-x-end-in-Ok
+slice_bounds-x-end-in-Ok c =
+    omega (arith, low (goal.at.slice_bounds-x-end-in-Ok c).In-Ok, size (goal.at.slice_bounds-x-end-in-Ok c).After-admit, length_front c.admit.new.x c.delay.new.cells c.in-Ok.n c.delay.auto.cells)
 
-pub slice_bounds-place-end-in-Accepted : goal.slice_bounds-place-end-in-Accepted
-slice_bounds-place-end-in-Accepted c = sym (length-take-le _ _ ((omega (arith, low (goal.at.slice_bounds-place-end-in-Accepted c).In-Accepted, size (goal.at.slice_bounds-place-end-in-Accepted c).After-admit, length_front c.admit.new.x c.delay.new.cells c.in-Accepted.n c.delay.auto.cells))))
+pub slice_bounds-place-end-in-Ok : goal.slice_bounds-place-end-in-Ok
+slice_bounds-place-end-in-Ok c = sym (length-take-le _ _ ((omega (arith, low (goal.at.slice_bounds-place-end-in-Ok c).In-Ok, size (goal.at.slice_bounds-place-end-in-Ok c).After-admit, length_front c.admit.new.x c.delay.new.cells c.in-Ok.n c.delay.auto.cells))))
 
 pub place-requires : goal.place-requires
 unfolding frame_of
 place-requires c =
-    let made = (taken (goal.at.place-requires c).In-Accepted).1 in
+    let made = (taken (goal.at.place-requires c).In-Ok).1 in
     let r = made.ready in
-    let size = sym ((sym (length-take-le _ _ ((omega (arith, low (goal.at.place-requires c).In-Accepted, size (goal.at.place-requires c).After-admit, length_front c.admit.new.x c.delay.new.cells c.in-Accepted.n c.delay.auto.cells)))))) in
-    (r.fits, r.studied, made.whole, size ∙ r.all, (lent (goal.at.place-requires c).After-number_at-m).whole, λ i h. made.ranks i (omega (arith, h, size)))
+    let size = sym ((sym (length-take-le _ _ ((omega (arith, low (goal.at.place-requires c).In-Ok, size (goal.at.place-requires c).After-admit, length_front c.admit.new.x c.delay.new.cells c.in-Ok.n c.delay.auto.cells)))))) in
+    (r.fits, r.studied, made.whole, size ∙ r.all, (lent (goal.at.place-requires c).In-Ok).whole, λ i h. made.ranks i (omega (arith, h, size)))
 
 pub next_state-requires : goal.next_state-requires
 unfolding frame_of
-next_state-requires c = (lent (goal.at.next_state-requires c).After-number_at-m).phase_in
+next_state-requires c = (lent (goal.at.next_state-requires c).In-Ok).phase_in
 
-pub returns-in-Refused : goal.returns-in-Refused
-returns-in-Refused c =
-    let g = c in
-    let a = g.args in
+pub returns-in-Err : goal.returns-in-Err
+returns-in-Err c =
+    let a = c.args in
     let d = c.khz50_device-d in
-    refused false d.result a.plan.now ((at g.args.state g.args.store.now)) ((giving (given_by g.args.flushing g.args.input.now) g.args.profile.now g.args.symbol.now)) _ _ (sym c.in-Refused.is ∙ (said (goal.at.returns-in-Refused c).After-admit).0)
+    refused false d.result a.plan.now (at c.args.state c.args.store.now) (giving (given_by c.args.flushing c.args.input.now) c.args.profile.now c.args.symbol.now) _ _ (sym c.in-Err.is ∙ (said (goal.at.returns-in-Err c).After-admit).0)
     ∙ ap (λ (d : Device). step_by d a.plan.now a.profile.now a.flushing a.state a.store.now a.input.now a.symbol.now) d.ensures
 
-pub returns-in-Accepted : goal.returns-in-Accepted
-returns-in-Accepted c =
-    let g = c in
-    let a = g.args in
+pub returns-in-Ok : goal.returns-in-Ok
+returns-in-Ok c =
+    let a = c.args in
     let d = c.khz50_device-d in
     let put = c.delay.ensures in
-    let step = taken (goal.at.returns-in-Accepted c).In-Accepted in
-    sent d.result a.plan.now ((at g.args.state g.args.store.now)) ((giving (given_by g.args.flushing g.args.input.now) g.args.profile.now g.args.symbol.now)) _ step.0 _ _ _ _ _ _ (deep (goal.at.returns-in-Accepted c).After-number_at-m) (part (goal.at.returns-in-Accepted c).In-Accepted) step.1.input put.stored
-    (c.place.ensures ∙ ap (line_symbol (frame_of d.result (plan_of a.plan.now))) (front (goal.at.returns-in-Accepted c).After-delay ∙ put.sent)) c.next_state.ensures
+    let step = taken (goal.at.returns-in-Ok c).In-Ok in
+    sent d.result a.plan.now (at c.args.state c.args.store.now) (giving (given_by c.args.flushing c.args.input.now) c.args.profile.now c.args.symbol.now) _ step.0 _ _ _ _ _ _ (deep (goal.at.returns-in-Ok c).After-number_at-m) (part (goal.at.returns-in-Ok c).In-Ok) step.1.input put.stored
+    (c.place.ensures ∙ ap (line_symbol (frame_of d.result (plan_of a.plan.now))) (front (goal.at.returns-in-Ok c).After-delay (part (goal.at.returns-in-Ok c).In-Ok) ∙ put.sent)) c.next_state.ensures
     ∙ ap (λ (d : Device). step_by d a.plan.now a.profile.now a.flushing a.state a.store.now a.input.now a.symbol.now) d.ensures

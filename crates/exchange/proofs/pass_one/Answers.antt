@@ -1,11 +1,8 @@
 -- `exchange::pass_one` meets its contract. Assumes nothing.
 use Prim.Native.Nat.{◌<◌}
 use native.Mathlib.Omega.{arith}
-use Rattle.exchange.proofs.Groups.{passes_none, fits, one_at, one_passes}
+use Rattle.exchange.proofs.Groups.{fits, one_at, one_passes}
 use Rattle.exchange.proofs.pass_one.Goals as goal
-
-pub returns-then-k-p : goal.returns-then-k-p
-returns-then-k-p c = record { at = (c.requires.0, c.if-k-p.true); passed = passes_none _ _ _ _ _ _ }
 
 pub exchange_one-newest-requires : goal.exchange_one-newest-requires
 exchange_one-newest-requires c =

@@ -6,8 +6,8 @@ use native.Mathlib.Omega.{arith}
 use lib.ListN.{length, take}
 use lib.Seq.{length-take-le}
 use Rattle.rules.specs.declared.Device.{Device}
-use Rattle.rules.specs.declared.Verdict.{Verdict}
-use Rattle.rules.specs.declared.Verdict.TheVariants.{Accepted}
+use Rattle.rules.specs.Refusals.{Verdict}
+use Rattle.std.specs.Prelude.{Ok}
 use Rattle.rules.specs.Fits.{Fits}
 use Rattle.rules.specs.Plan.{plan_of}
 use Rattle.rules.specs.Frame.{frame_of}
@@ -15,29 +15,30 @@ use Rattle.rules.proofs.Sizes.{khz50_fits}
 use Rattle.figure.specs.Steps.{literal_places, figure_start_step}
 use Rattle.flushes.specs.Spotted.{Spotted}
 use Rattle.startgrounds.specs.Admit.{emitter_verdict, SpottedIf}
+use Rattle.rules.proofs.Findings.{passed_on}
 use Rattle.startgrounds.proofs.Starts.{few, StartInOrder, admitted, start_refused, started}
 use Rattle.figureemitter.proofs.fresh_emitter.Goals as goal
-use Rattle.figureemitter.proofs.fresh_emitter.Goals.{In-Accepted}
+use Rattle.figureemitter.proofs.fresh_emitter.Goals.{In_ok-n}
 
 -- no ground of 1 to 17 and 27 holds
-accepted : (c : In-Accepted) → Accepted c.in-Accepted.n ≡ emitter_verdict true ((c.khz50_device-d.result)) c.args.plan.now c.args.phase c.args.store.now
-accepted c = sym c.in-Accepted.is ∙ c.admit_emitter.ensures.answer _ refl
+accepted : (c : In_ok-n) → Ok c.in_ok-n.n ≡ emitter_verdict true c.khz50_device-d.result c.args.plan.now c.args.phase c.args.store.now
+accepted c = sym c.in_ok-n.was ∙ c.admit_emitter.ensures.answer _ refl
 
-known : (c : In-Accepted)
-    → StartInOrder ((c.khz50_device-d.result)) c.args.plan.now c.args.phase c.in-Accepted.n
-    × (literal_places (frame_of ((c.khz50_device-d.result)) (plan_of c.args.plan.now)) ≤ length c.args.store.now)
+known : (c : In_ok-n)
+    → StartInOrder c.khz50_device-d.result c.args.plan.now c.args.phase c.in_ok-n.n
+    × (literal_places (frame_of c.khz50_device-d.result (plan_of c.args.plan.now)) ≤ length c.args.store.now)
 known c = let a = admitted true _ _ _ _ _ (accepted c) in (a.0, a.2)
 
-places_from : (c : In-Accepted) → Spotted ((c.khz50_device-d.result)) c.args.plan.now (take c.in-Accepted.n c.admit_emitter.new.kc)
+places_from : (c : In_ok-n) → Spotted c.khz50_device-d.result c.args.plan.now (take c.in_ok-n.n c.admit_emitter.new.kc)
 places_from c =
     let w = c.admit_emitter in
-    subst (λ (v : Verdict). SpottedIf v ((c.khz50_device-d.result)) c.args.plan.now w.new.kc) c.in-Accepted.is w.ensures.spotted
+    subst (λ (v : Verdict). SpottedIf v c.khz50_device-d.result c.args.plan.now w.new.kc) c.in_ok-n.was w.ensures.spotted
 
 -- the cells fit the array
-low : (c : In-Accepted) → c.in-Accepted.n ≤ length c.admit_emitter.new.kc
-low c = omega (arith, few ((c.khz50_device-d.result)) c.args.plan.now _ (places_from c).fits (known c).0.all, c.admit_emitter.auto.kc)
+low : (c : In_ok-n) → c.in_ok-n.n ≤ length c.admit_emitter.new.kc
+low c = omega (arith, few c.khz50_device-d.result c.args.plan.now _ (places_from c).fits (known c).0.all, c.admit_emitter.auto.kc)
 
-size : (c : In-Accepted) → length (take c.in-Accepted.n c.admit_emitter.new.kc) ≡ c.in-Accepted.n
+size : (c : In_ok-n) → length (take c.in_ok-n.n c.admit_emitter.new.kc) ≡ c.in_ok-n.n
 size c = length-take-le _ _ (low c)
 
 pub admit_emitter-requires : goal.admit_emitter-requires
@@ -49,23 +50,22 @@ pub slice_bounds-kc-end : goal.slice_bounds-kc-end
 slice_bounds-kc-end c = low c
 
 pub slice_bounds-fresh_lines-end : goal.slice_bounds-fresh_lines-end
-slice_bounds-fresh_lines-end c = sym (size (goal.at.slice_bounds-fresh_lines-end c).In-Accepted)
+slice_bounds-fresh_lines-end c = sym (size (goal.at.slice_bounds-fresh_lines-end c).In_ok-n)
 
 pub fresh_lines-requires : goal.fresh_lines-requires
 fresh_lines-requires c =
-    let k = c in
-    (places_from (goal.at.fresh_lines-requires c).In-Accepted, omega (arith, (known (goal.at.fresh_lines-requires c).In-Accepted).0.inside), (known (goal.at.fresh_lines-requires c).In-Accepted).1)
+    (places_from (goal.at.fresh_lines-requires c).In_ok-n, omega (arith, (known (goal.at.fresh_lines-requires c).In_ok-n).0.inside), (known (goal.at.fresh_lines-requires c).In_ok-n).1)
 
-pub returns-in-Refused : goal.returns-in-Refused
-returns-in-Refused c =
+pub returns-in_err-n : goal.returns-in_err-n
+returns-in_err-n c =
     let a = c.args in
     let is = c.khz50_device-d.ensures in
-    start_refused true _ a.plan.now a.phase a.store.now _ _ (sym c.in-Refused.is ∙ c.admit_emitter.ensures.answer _ refl)
-    ∙ ap (λ (d : Device). figure_start_step d a.plan.now a.phase a.store.now) is
+    rw (passed_on _ c.from_residual.ensures)
+    (start_refused true _ a.plan.now a.phase a.store.now _ _ (sym c.in_err-n.was ∙ c.admit_emitter.ensures.answer _ refl)
+    ∙ ap (λ (d : Device). figure_start_step d a.plan.now a.phase a.store.now) is)
 
-pub returns-in-Accepted : goal.returns-in-Accepted
-returns-in-Accepted c =
-    let k = c in
-    let a = k.args in
-    started true _ a.plan.now a.phase a.store.now _ (accepted (goal.at.returns-in-Accepted c).In-Accepted) _ c.fresh_lines.ensures
-    ∙ ap (λ (d : Device). figure_start_step d a.plan.now a.phase a.store.now) k.khz50_device-d.ensures
+pub returns : goal.returns
+returns c =
+    let a = c.args in
+    started true _ a.plan.now a.phase a.store.now _ (accepted (goal.at.returns c).In_ok-n) _ c.fresh_lines.ensures
+    ∙ ap (λ (d : Device). figure_start_step d a.plan.now a.phase a.store.now) c.khz50_device-d.ensures

@@ -1,20 +1,25 @@
 -- `fill::all_data` meets its contract. The flags so far, joined bit by bit, are 0 where the cells so far are data cells. Assumes nothing.
-use mathlib.Core.Path.{◌≡◌, refl, ap, ◌∙◌}
+use Prim.Native.Nat.{◌+◌, ◌<◌}
+use mathlib.Core.Path.{◌≡◌, ap, ◌∙◌}
 use native.Mathlib.Omega.{arith}
+use Rattle.std.proofs.lemmas.List.Edits.{length-between, get_or-between}
 use Rattle.fill.specs.Flags.{all_data}
 use Rattle.fill.proofs.Filling.{all_data_start, all_data_next}
 use Rattle.fill.proofs.all_data.Goals as goal
 
-pub loop-i-init : goal.loop-i-init
-loop-i-init c = (omega arith, all_data_start _ _)
+pub loop-f-init : goal.loop-f-init
+loop-f-init c = all_data_start _ _
 
-pub loop-i-preserved : goal.loop-i-preserved
-loop-i-preserved c =
-    let l = c.loop-i in
-    (omega arith, all_data_next _ _ l.i l.held _ l.invariant.1 refl)
+pub loop-f-preserved : goal.loop-f-preserved
+loop-f-preserved c =
+    let a = c.args in
+    let l = c.loop-f in
+    let h : a.p + l.f-index < a.p + 16 = omega (arith, length-between a.flag.now a.p (a.p + 16) c.requires) in
+    all_data_next _ _ l.f-index l.held _ l.invariant (get_or-between a.flag.now a.p (a.p + 16) l.f-index 0 h)
 
 pub returns : goal.returns
 returns c =
-    let l = c.loop-i in
-    let e : l.i ≡ 16 = omega arith in
-    l.invariant.1 ∙ ap (all_data _ _) e
+    let a = c.args in
+    let l = c.loop-f in
+    let e : l.f-index ≡ 16 = omega (arith, length-between a.flag.now a.p (a.p + 16) c.requires) in
+    l.invariant ∙ ap (all_data _ _) e

@@ -1,5 +1,5 @@
 -- `fill::copy_eight` meets its contract. The first loop has read the numbers below i, the second has stored those below j. Assumes nothing.
-use Prim.Native.Nat.{ℕ, ◌+◌, ◌-◌, ◌≤◌}
+use Prim.Native.Nat.{ℕ, ◌+◌}
 use mathlib.Core.List.{List}
 use lib.ListN.{get_or}
 use Rattle.fill.proofs.Blocks.{Stored}
@@ -10,13 +10,7 @@ abbrev pub from : List ℕ → ℕ → ℕ → ℕ
 from x a i = get_or x (a + i) 0
 
 abbrev pub invariant-loop-i : goal.invariant-loop-i
-invariant-loop-i l = (l.i ≤ 8) × Stored l.initial.eight 0 (from l.x l.a) 8 l.i l.eight
-
-abbrev pub decreases-loop-i : goal.decreases-loop-i
-decreases-loop-i l = 8 - l.i
+invariant-loop-i l = Stored l.initial.eight 0 (from l.x l.a) 8 l.i l.eight
 
 abbrev pub invariant-loop-j : goal.invariant-loop-j
-invariant-loop-j l = (l.j ≤ 8) × Stored l.initial.y l.b (from l.x l.a) 8 l.j l.y
-
-abbrev pub decreases-loop-j : goal.decreases-loop-j
-decreases-loop-j l = 8 - l.j
+invariant-loop-j l = Stored l.initial.y l.b (from l.x l.a) 8 l.j l.y

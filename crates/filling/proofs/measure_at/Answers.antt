@@ -9,8 +9,7 @@ use lib.ListN.{length, get_or, take, drop, replicate, length-replicate, get_or-a
 use lib.Seq.{length-take-le, length_front}
 use borrow.Author.Tests.{ltb-false}
 use Rattle.counting.specs.Search.{bit}
-use Rattle.rules.specs.declared.Finding.TheVariants.{Fine}
-use Rattle.rules.specs.declared.CountAnswer.TheVariants.{Count}
+use Rattle.std.specs.Prelude.{Ok}
 use Rattle.rules.specs.Fits.{capacity}
 use Rattle.rules.specs.Plan.{plan_of}
 use Rattle.rules.specs.Frame.{frame_of, spot, held, data_count}
@@ -26,7 +25,7 @@ use Rattle.filling.proofs.measure_at.Goals.{After-lacks_bits, After-prepare-nd, 
 low : (g : Start) → g.args.n ≤ capacity
 low g = omega (arith, g.requires.0.all, cells_low g.args.d (plan_of g.args.plan.now) g.requires.0.fits)
 
-listed : (g : Start) → ground25 ((frame_of g.args.d (plan_of g.args.plan.now))).width g.args.profile.now ≡ Fine
+listed : (g : Start) → ground25 ((frame_of g.args.d (plan_of g.args.plan.now))).width g.args.profile.now ≡ Ok tt
 unfolding frame_of
 listed g = g.requires.1
 
@@ -136,7 +135,7 @@ returns c =
     let k = c in
     let need = k.take_loads-need.ensures.sum.0 in
     let enough : bit_count ((frame_of g.args.d (plan_of g.args.plan.now))) a.profile.now a.j ≤ a.bytes * 8 - a.start = ltb-false _ _ (sym (lacking (goal.at.returns c).After-lacks_bits) ∙ c.if-lacks_bits.false) in record {
-      answer = ap Count need ∙ by_bits a.d a.plan.now a.profile.now a.j a.number a.bytes a.start g.requires.0.fine (listed (goal.at.returns c).Start) g.requires.2 (counted (goal.at.returns c).Else-number-nd) false (sym c.if-lacks_bits.false ∙ lacking (goal.at.returns c).After-lacks_bits);
+      answer = ap Ok need ∙ by_bits a.d a.plan.now a.profile.now a.j a.number a.bytes a.start g.requires.0.fine (listed (goal.at.returns c).Start) g.requires.2 (counted (goal.at.returns c).Else-number-nd) false (sym c.if-lacks_bits.false ∙ lacking (goal.at.returns c).After-lacks_bits);
       made = record {
         all = counted (goal.at.returns c).Else-number-nd;
         few = omega (arith, counted (goal.at.returns c).Else-number-nd, data_le ((frame_of g.args.d (plan_of g.args.plan.now))) a.j, g.requires.0.all, low (goal.at.returns c).Start, g.requires.3, k.take_loads-need.auto.loads);

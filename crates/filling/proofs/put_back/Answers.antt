@@ -6,11 +6,8 @@ use native.Mathlib.Omega.{arith}
 use lib.Dec.{ltb}
 use lib.ListN.{length, get_or}
 use Rattle.counting.specs.Search.{lowest}
-use Rattle.counting.specs.declared.Found.{Found}
-use Rattle.counting.specs.Answer.{place_of}
-use Rattle.rules.specs.declared.Finding.{Finding}
-use Rattle.rules.specs.declared.Finding.TheVariants.{Fine, Ground}
-use Rattle.rules.specs.declared.CountAnswer.TheVariants.{Count, Refused}
+use Rattle.std.specs.Prelude.{Option, Ok, Err}
+use Rattle.rules.specs.Refusals.{Finding, refused_by}
 use Rattle.rules.specs.Grounds.{ground?}
 use Rattle.rules.specs.Bits.{unfilled_into}
 use Rattle.rules.specs.Loads.{load_limit}
@@ -21,15 +18,15 @@ use Rattle.filling.proofs.put_back.Goals as goal
 
 -- what 19 leaves of a finding
 left : (ls ds : List ℕ) (need : ℕ) (stream : List ℕ) (a : ℕ) (f : Finding) → f ≡ ground? 19 (lowest (λ i. ltb (load_limit (get_or ls i 0)) (get_or ds i 0)) (length ds))
-    → elim f [ Fine ↦ fills (Count need) (unfilled_into ls ds stream a) | Ground n place ↦ fills (Refused n place) stream ] ≡ put_back ls ds need stream a
+    → elim f [ Ok _ ↦ fills (Ok need) (unfilled_into ls ds stream a) | Err r ↦ fills (Err r) stream ] ≡ put_back ls ds need stream a
 unfolding put_back
-left ls ds need stream a f e = ap (λ (x : Finding). elim x [ Fine ↦ fills (Count need) (unfilled_into ls ds stream a) | Ground n place ↦ fills (Refused n place) stream ]) e
+left ls ds need stream a f e = ap (λ (x : Finding). elim x [ Ok _ ↦ fills (Ok need) (unfilled_into ls ds stream a) | Err r ↦ fills (Err r) stream ]) e
 
 pub first_over-requires : goal.first_over-requires
 first_over-requires c = let g = c in (g.requires.1, omega (arith, g.requires.0), g.requires.2)
 
-pub returns-in-At : goal.returns-in-At
-returns-in-At c = let a = c.args in left a.loads.now a.ds.now a.need a.stream.now a.start (Ground 19 _) (ap (λ (f : Found). ground? 19 (place_of f)) (sym c.in-At.is) ∙ ap (ground? 19) c.first_over.ensures)
+pub returns-in-Some : goal.returns-in-Some
+returns-in-Some c = let a = c.args in left a.loads.now a.ds.now a.need a.stream.now a.start (refused_by 19 _) (ap (λ (f : Option ℕ). ground? 19 f) (sym c.in-Some.is) ∙ ap (ground? 19) c.first_over.ensures)
 
 pub unfill_into-requires : goal.unfill_into-requires
 unfill_into-requires c =
@@ -43,5 +40,5 @@ returns c =
     let g = c in
     let a = g.args in
     let f = c.from_bit.ensures in
-    ap (fills (Count a.need)) (c.unfill_into.ensures ∙ unfill_start a.loads.now a.start _ (λ z. f.0 (g.requires.3 ∙ z)) (λ z. f.1 (omega (arith, g.requires.3, z))) a.ds.now a.stream.now (sym g.requires.0))
-    ∙ left a.loads.now a.ds.now a.need a.stream.now a.start Fine (ap (λ (f : Found). ground? 19 (place_of f)) (sym c.in_default.is) ∙ ap (ground? 19) c.first_over.ensures)
+    ap (fills (Ok a.need)) (c.unfill_into.ensures ∙ unfill_start a.loads.now a.start _ (λ z. f.0 (g.requires.3 ∙ z)) (λ z. f.1 (omega (arith, g.requires.3, z))) a.ds.now a.stream.now (sym g.requires.0))
+    ∙ left a.loads.now a.ds.now a.need a.stream.now a.start (Ok tt) (ap (λ (f : Option ℕ). ground? 19 f) (sym c.in_default.is) ∙ ap (ground? 19) c.first_over.ensures)

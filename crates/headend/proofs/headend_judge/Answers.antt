@@ -1,7 +1,7 @@
 -- `headend::headend_judge` meets its contract. Assumes nothing.
 use mathlib.Core.Path.{ap, ◌∙◌}
 use native.Mathlib.Omega.{arith}
-use Rattle.answers.specs.Answer.{told_verdict}
+use Rattle.answers.specs.Answer.{told_count}
 use Rattle.answerbytes.proofs.LayoutLaws.{too_short, long_enough}
 use Rattle.headend.specs.Calls.{judge_call}
 use Rattle.headend.proofs.Telling.{told}
@@ -15,5 +15,5 @@ pub returns : goal.returns
 unfolding judge_call
 returns c =
     let a = c.args.answer.now in
-    told _ a _ _ _ c.tell.ensures.number c.tell.ensures.answer (c.told_verdict.ensures ∙ ap told_verdict c.judge.ensures)
+    told _ a _ _ _ c.tell.ensures.number c.tell.ensures.answer (c.told_count.ensures ∙ ap told_count c.judge.ensures)
     ∙ long_enough a _ _ (omega (arith, c.if-answer-lt-ANSWER.false))

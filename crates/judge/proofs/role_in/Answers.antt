@@ -1,7 +1,7 @@
 -- `judge::role_in` meets its contract: ground 16, then the role test. Assumes nothing.
 use mathlib.Core.Path.{ap, ◌∙◌}
 use native.Mathlib.Omega.{arith}
-use Rattle.rules.specs.declared.RoleAnswer.TheVariants.{Is}
+use Rattle.std.specs.Prelude.{Ok}
 use Rattle.rules.specs.Plan.{plan_of}
 use Rattle.rules.specs.Roles.{predefined}
 use Rattle.judge.proofs.EntryAnswers.{role_out_subcarrier, role_out_phase, role_is}
@@ -40,4 +40,4 @@ role_test-requires c =
 pub returns : goal.returns
 returns c =
     let g = c in
-    ap Is c.role_test.ensures ∙ role_is g.args.d g.args.plan.now g.args.k g.args.phase c.if-d-at.false c.if-j-ge-PHASES.false
+    ap Ok c.role_test.ensures ∙ role_is g.args.d g.args.plan.now g.args.k g.args.phase c.if-d-at.false c.if-j-ge-PHASES.false

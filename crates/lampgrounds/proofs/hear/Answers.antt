@@ -2,7 +2,7 @@
 use Prim.Native.Nat.{ℕ}
 use mathlib.Core.Path.{ap, ap₂, ◌∙◌}
 use mathlib.Core.List.{List}
-use Rattle.rules.specs.declared.CountAnswer.TheVariants.{Count}
+use Rattle.std.specs.Prelude.{Ok}
 use Rattle.pilots.specs.Pilots.{pilots_most}
 use Rattle.lamprecord.specs.Record.{lights}
 use Rattle.lampgrounds.specs.Steps.{leaves_record}
@@ -13,4 +13,4 @@ pub returns : goal.returns
 returns c =
     let s = c in
     let next = c.advance.ensures in
-    unfold heard_cells in (ap₂ (λ (l r : List ℕ). leaves_record (record { answer = Count s.args.n; lights = l }) r) (c.lights_of.ensures ∙ ap (lights pilots_most) next) next)
+    unfold heard_cells in (ap₂ (λ (l r : List ℕ). leaves_record (record { answer = Ok s.args.n; lights = l }) r) (c.lights_of.ensures ∙ ap (lights pilots_most) next) next)

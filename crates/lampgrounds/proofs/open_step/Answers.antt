@@ -8,11 +8,11 @@ pub open_accepted-requires : goal.open_accepted-requires
 open_accepted-requires c =
     let s = c in
     let is = c.pilots_on-p.ensures in
-    let told = c.in-Count.is in
+    let told = c.in-Ok.is in
     let a = accepted_plan s.args.d s.args.plan.now s.args.counts.now s.args.cells _ _ is told in
     (is, told, omega (arith, a.1, few s.args.d s.requires s.args.plan.now a.0))
 
-pub returns-in-Refused : goal.returns-in-Refused
-returns-in-Refused c =
+pub returns-in-Err : goal.returns-in-Err
+returns-in-Err c =
     let s = c in
-    open_refused s.args.d s.args.plan.now s.args.counts.now s.args.cells _ _ _ c.pilots_on-p.ensures c.in-Refused.is
+    open_refused s.args.d s.args.plan.now s.args.counts.now s.args.cells _ _ c.pilots_on-p.ensures c.in-Err.is

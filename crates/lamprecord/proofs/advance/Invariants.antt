@@ -1,5 +1,4 @@
 -- `lamprecord::advance` meets its contract. Assumes nothing.
-use Prim.Native.Nat.{◌-◌, ◌≤◌}
 use lib.Dec.{eqb}
 use lib.ListN.{get_or}
 use Rattle.rules.specs.Roles.{continuous_mark}
@@ -8,7 +7,4 @@ use Rattle.lamprecord.proofs.Steps.{Advanced}
 use Rattle.lamprecord.proofs.advance.Given as goal
 
 abbrev pub invariant-loop-i : goal.invariant-loop-i
-invariant-loop-i l = (l.i ≤ l.n) × Advanced lamp_cap (λ q. eqb (get_or l.cells q 0) continuous_mark) l.n l.initial.counts l.i l.counts
-
-abbrev pub decreases-loop-i : goal.decreases-loop-i
-decreases-loop-i l = l.n - l.i
+invariant-loop-i l = Advanced lamp_cap (λ q. eqb (get_or l.cells q 0) continuous_mark) l.n l.initial.counts l.i l.counts

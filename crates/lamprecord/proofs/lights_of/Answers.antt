@@ -13,7 +13,7 @@ use Rattle.lamprecord.specs.Record.{lit, lights}
 use Rattle.lamprecord.proofs.lights_of.Goals as goal
 
 pub loop-i-init : goal.loop-i-init
-loop-i-init c = (omega arith, laid_none _ _)
+loop-i-init c = laid_none _ _
 
 pub loop-i-preserved : goal.loop-i-preserved
 loop-i-preserved c =
@@ -22,7 +22,7 @@ loop-i-preserved c =
     let e : c.light.result ≡ bit (lit r l.i) =
     unfold lit in (c.light.ensures
     ∙ ap₂ (λ (f x : ℕ). bit (ltb 0 f && eqb x f)) c.count_at.ensures (c.count_at-in-loop-i.ensures ∙ ap (λ (q : ℕ). get_or r q 0) (add-one l.i))) in
-    (omega arith, laid_next _ pilots_most l.i l.out _ l.invariant.1 (omega arith) e)
+    laid_next _ pilots_most l.i l.out _ l.invariant (omega arith) e
 
 pub returns : goal.returns
-returns c = let l = c.loop-i in unfold lights in (laid_all _ pilots_most l.i l.out l.invariant.1 (omega arith))
+returns c = let l = c.loop-i in unfold lights in (laid_all _ pilots_most l.i l.out l.invariant (omega arith))

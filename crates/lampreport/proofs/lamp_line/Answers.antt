@@ -17,7 +17,7 @@ returns-then-end-start c =
     let rest = c.put_all-end in
     let last = c.put-len in
     let dark : take rest.result rest.new.out ≡ dark_word ++ spaced (dark_pilots a.list.now a.lights.now (min a.n pilots_most)) =
-    rest.ensures.line ∙ ap₂ (λ (l : List ℕ) (n : ℕ). l ++ spaced (dark_pilots a.list.now a.lights.now n)) first.ensures.line c.listed.ensures in
+    rest.ensures.line ∙ ap₂ (λ (l : List ℕ) (n : ℕ). l ++ spaced (dark_pilots a.list.now a.lights.now n)) first.ensures.line c.min-listed.ensures in
     let room : rest.result ≤ length rest.new.out = omega (arith, rest.ensures.number.1, rest.auto.out, first.auto.out) in
     let inside : last.result ≤ length last.new.out = omega (arith, last.ensures.number, last.auto.out, rest.ensures.number.1, rest.auto.out, first.auto.out) in record { text_value = line_lit a.list.now a.lights.now (min a.n pilots_most) rest.new.out rest.result dark room (omega (arith, c.if-end-start.true, first.ensures.number)) _ last.ensures.line; prefix_len = (inside, sym (length-take-le last.result last.new.out inside)) }
 
@@ -28,6 +28,6 @@ returns c =
     let rest = c.put_all-end in
     let last = c.put-len-2 in
     let dark : take rest.result rest.new.out ≡ dark_word ++ spaced (dark_pilots a.list.now a.lights.now (min a.n pilots_most)) =
-    rest.ensures.line ∙ ap₂ (λ (l : List ℕ) (n : ℕ). l ++ spaced (dark_pilots a.list.now a.lights.now n)) first.ensures.line c.listed.ensures in
+    rest.ensures.line ∙ ap₂ (λ (l : List ℕ) (n : ℕ). l ++ spaced (dark_pilots a.list.now a.lights.now n)) first.ensures.line c.min-listed.ensures in
     let room : rest.result ≤ length rest.new.out = omega (arith, rest.ensures.number.1, rest.auto.out, first.auto.out) in
     let inside : last.result ≤ length last.new.out = omega (arith, last.ensures.number, last.auto.out, rest.ensures.number.1, rest.auto.out, first.auto.out) in record { text_value = line_dark a.list.now a.lights.now (min a.n pilots_most) rest.new.out rest.result dark room (λ z. c.if-end-start.false (omega (arith, z, first.ensures.number))) _ last.ensures.line; prefix_len = (inside, sym (length-take-le last.result last.new.out inside)) }

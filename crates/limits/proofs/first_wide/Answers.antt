@@ -1,13 +1,10 @@
 -- `limits::first_wide` meets its contract. The loop keeps that no band before band j has width w or more. Assumes nothing.
 use Rattle.limits.proofs.Tests.{wide_yes, wide_no}
-use Rattle.limits.proofs.Searching.{search_start, search_found, search_passed, search_ended}
+use Rattle.limits.proofs.Searching.{search_start, search_found, search_passed}
 use Rattle.limits.proofs.first_wide.Goals as goal
 
 pub loop-j-init : goal.loop-j-init
 loop-j-init c = search_start
-
-pub width_of-requires : goal.width_of-requires
-width_of-requires c = let k = c.band_at-k.ensures in (k.singles.rise, k.below)
 
 pub returns-then-w-width_of : goal.returns-then-w-width_of
 returns-then-w-width_of c =
@@ -22,6 +19,3 @@ loop-j-preserved c =
     let t = v in
     let k = t.band_at-k.ensures in
     search_passed t.loop-j.invariant t.loop-j-test.true k.lowest k.highest (wide_no _ _ _ _ v.width_of.ensures c.if-w-width_of.false)
-
-pub returns : goal.returns
-returns c = search_ended c.loop-j.invariant c.loop-j-test.false

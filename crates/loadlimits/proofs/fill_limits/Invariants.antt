@@ -1,5 +1,4 @@
 -- `loadlimits::fill_limits` meets its contract. The loop has stored the limits below `load`. Assumes nothing.
-use Prim.Native.Nat.{◌-◌, ◌≤◌}
 use mathlib.Core.Path.{◌≡◌}
 use lib.ListN.{length}
 use Rattle.counting.proofs.Stride.{Upto}
@@ -7,7 +6,4 @@ use Rattle.loadlimits.specs.Limits.{limit_of}
 use Rattle.loadlimits.proofs.fill_limits.Given as goal
 
 abbrev pub invariant-loop-load : goal.invariant-loop-load
-invariant-loop-load l = (l.load ≤ 15) × (length l.limits ≡ 256) × Upto 256 l.load limit_of (λ q. 0) l.limits
-
-abbrev pub decreases-loop-load : goal.decreases-loop-load
-decreases-loop-load l = 15 - l.load
+invariant-loop-load l = (length l.limits ≡ 256) × Upto 256 l.load limit_of (λ q. 0) l.limits

@@ -1,5 +1,4 @@
 -- `marks::paint` meets its contract. The loop has painted the excluded subcarriers below the end of the last run passed. Assumes nothing.
-use Prim.Native.Nat.{◌-◌, ◌≤◌}
 use Rattle.counting.specs.Runs.{before}
 use Rattle.rules.specs.Plan.{plan_of}
 use Rattle.rules.specs.Bands.{excluded}
@@ -9,7 +8,4 @@ use Rattle.marks.proofs.Painting.{up_to}
 use Rattle.marks.proofs.paint.Given as goal
 
 abbrev pub invariant-loop-i : goal.invariant-loop-i
-invariant-loop-i l = (l.i ≤ l.n) × Cells l.size (painted (up_to (excluded (plan_of l.plan)) (before l.hi l.i))) l.m
-
-abbrev pub decreases-loop-i : goal.decreases-loop-i
-decreases-loop-i l = l.n - l.i
+invariant-loop-i l = Cells l.size (painted (up_to (excluded (plan_of l.plan)) (before l.hi l.i))) l.m

@@ -1,22 +1,28 @@
--- `marks::spread` meets its contract. The loop has stored the stretch as far as k. Assumes nothing.
-use Prim.Native.Nat.{ℕ}
-use mathlib.Core.Path.{subst}
-use native.Mathlib.Nat.{le_antisymm}
+-- `marks::spread` meets its contract: the cells of the stretch are those filled. Assumes nothing.
+use Prim.Native.Nat.{ℕ, ◌-◌, ◌≤◌, ◌<◌}
+use mathlib.Core.Path.{◌≡◌}
+use mathlib.Core.Logic.{◌⊎◌, inl, inr}
+use mathlib.Core.List.{List}
 use native.Mathlib.Omega.{arith}
+use lib.ListN.{length, get_or, replicate}
+use borrow.Author.Rules.{rules}
+use borrow.Rule.Slice.PartMut.{put_mid}
+use Rattle.std.proofs.lemmas.List.{places}
+use Rattle.rules.specs.Fits.{capacity}
 use Rattle.marks.specs.Stages.{between, Stamped}
-use Rattle.marks.proofs.Stretches.{between_none, between_more, stamp_start, stamp_more}
+use Rattle.marks.proofs.Stretches.{between_in, between_out}
 use Rattle.marks.proofs.spread.Goals as goal
 
-pub loop-k-init : goal.loop-k-init
-loop-k-init c = (omega arith, omega (arith, c.requires.1), stamp_start _ _ _ c.requires.0 (between_none _))
-
-pub loop-k-preserved : goal.loop-k-preserved
-loop-k-preserved c =
-    let l = c.loop-k in
-    (omega (arith, l.invariant.0), omega arith, stamp_more _ _ _ l.k _ _ l.invariant.2 (omega (arith, c.loop-k-test.true, c.requires.2)) (λ j. between_more _ l.k j l.invariant.0))
+filled : (v a b n : ℕ) (m y : List ℕ) → length m ≡ capacity → a ≤ b → b ≤ capacity → n ≡ b - a → y ≡ replicate n v → Stamped v (between a b) m (put_mid a (b - a) m y)
+filled v a b n m y l s w i e = rw (e, i) (record {
+  long = search (rules, places);
+  here = λ k h. let i : (a ≤ k) × (k < b) = between_in a b k h in grind (arith, places);
+  other = λ k h. outside k (between_out a b k h);
+})
+  where
+    outside : (k : ℕ) → (k < a) ⊎ (b ≤ k) → get_or (put_mid a (b - a) m (replicate (b - a) v)) k 0 ≡ get_or m k 0
+    outside k (inl h) = search (rules, places)
+    outside k (inr h) = search (rules, places)
 
 pub returns : goal.returns
-returns c =
-    let l = c.loop-k in
-    let a = c.args in
-    subst (λ (x : ℕ). Stamped a.v (between a.a x) a.m.now l.m) (le_antisymm l.invariant.1 c.loop-k-test.false) l.invariant.2
+returns c = filled _ _ _ _ _ _ c.requires.0 (omega arith) (omega arith) (search (rules, places)) (c.fill.ensures.after (λ y e. e))

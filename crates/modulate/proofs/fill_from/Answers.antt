@@ -1,5 +1,5 @@
--- `modulate::fill_from` meets its contract. The loop has filled the subcarriers below k. Assumes nothing.
-use mathlib.Core.Path.{◌≡◌, refl, ap, ◌∙◌}
+-- `modulate::fill_from` meets its contract. Assumes nothing.
+use mathlib.Core.Path.{refl, ap, ◌∙◌}
 use mathlib.Core.List.{List}
 use native.Mathlib.Numerals.{add-one}
 use native.Mathlib.Omega.{arith}
@@ -12,28 +12,17 @@ use Rattle.modulate.proofs.fill_from.Goals as goal
 
 pub loop-k-init : goal.loop-k-init
 unfolding filled_to
-loop-k-init c = (refl, refl, omega arith)
+loop-k-init c = refl
 
 pub fill_at-requires : goal.fill_at-requires
 fill_at-requires c =
-    let g = c in
-    let l = c.loop-k in
-    let n = length g.args.symbol.now in
-    (g.requires.0, omega arith, omega arith, omega arith, omega arith, lowest_none (unadmitted g.args.symbol.now g.args.loads.now) n g.requires.4 l.k c.loop-k-test.true)
+    let a = c.args in
+    let n = length a.symbol.now in
+    (c.requires.0, omega arith, omega arith, omega arith, omega arith, lowest_none (unadmitted a.symbol.now a.loads.now) n c.requires.4 c.loop-k.k c.loop-k-test.true)
 
 pub loop-k-preserved : goal.loop-k-preserved
 unfolding filled_to
 loop-k-preserved c =
     let a = c.args in
-    let l = c.loop-k in (
-      c.fill_at.ensures ∙ rw (add-one l.k) (ap (λ (n : List Float). put_answer n l.k (line_at a.symbol.now a.loads.now a.minus.now l.k)) l.invariant.0),
-      c.fill_at.auto.out ∙ l.invariant.1,
-      omega arith,
-    )
-
-pub returns : goal.returns
-returns c =
-    let a = c.args in
     let l = c.loop-k in
-    let e : l.k ≡ length a.symbol.now = omega arith in
-    rw e at l.invariant.0
+    c.fill_at.ensures ∙ rw (add-one l.k) (ap (λ (n : List Float). put_answer n l.k (line_at a.symbol.now a.loads.now a.minus.now l.k)) l.invariant)

@@ -1,8 +1,7 @@
 -- `modulate::line_from` meets its contract: a point, or a mark. Assumes nothing.
 use mathlib.Core.Path.{ap, ◌∙◌}
-use Rattle.scaling.specs.declared.ScaledPoint.{ScaledPoint}
 use Rattle.modulator.specs.declared.OnLine.TheVariants.{Point}
-use Rattle.modulator.specs.declared.LineAnswer.TheVariants as a-line
+use Rattle.std.specs.Prelude.{Ok}
 use Rattle.loadlimits.proofs.Admitting.{unrefused}
 use Rattle.modulate.proofs.Unrefused.{listed, value_in, mark_in, line_value, line_mark}
 use Rattle.modulate.proofs.line_from.Goals as goal
@@ -17,7 +16,7 @@ pub returns-then-cell-lt32768 : goal.returns-then-cell-lt32768
 returns-then-cell-lt32768 c =
     let g = c in
     let a = g.args in
-    ap (λ (s : ScaledPoint). a-line.Is (Point s)) c.point_from.ensures ∙ line_value a.cell a.load a.minus (unrefused a.cell a.load a.minus g.requires.1) c.if-cell-lt32768.true
+    ap Ok (ap Point c.point_from.ensures) ∙ line_value a.cell a.load a.minus (unrefused a.cell a.load a.minus g.requires.1) c.if-cell-lt32768.true
 
 pub mark_line-requires : goal.mark_line-requires
 mark_line-requires c =
@@ -28,4 +27,4 @@ pub returns : goal.returns
 returns c =
     let g = c in
     let a = g.args in
-    ap a-line.Is c.mark_line.ensures ∙ line_mark a.cell a.load a.minus (unrefused a.cell a.load a.minus g.requires.1) c.if-cell-lt32768.false
+    ap Ok c.mark_line.ensures ∙ line_mark a.cell a.load a.minus (unrefused a.cell a.load a.minus g.requires.1) c.if-cell-lt32768.false

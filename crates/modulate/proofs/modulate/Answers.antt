@@ -8,9 +8,8 @@ use lib.ListN.{length}
 use lib.Ieee.{Float}
 use Rattle.rules.specs.declared.Device.{Device}
 use Rattle.rules.specs.Device.{khz50}
-use Rattle.modulator.specs.declared.ModulateAnswer.{ModulateAnswer}
-use Rattle.modulator.specs.declared.ModulateAnswer.TheVariants.{Modulated}
-use Rattle.modulator.specs.Symbols.{modulates, fitting}
+use Rattle.std.specs.Prelude.{Ok}
+use Rattle.modulator.specs.Symbols.{ModulateAnswer, modulates, fitting}
 use Rattle.modulate.proofs.Modulating.{Lengths, lengths, passed, unfit, refuses, modulated}
 use Rattle.modulate.proofs.modulate.Goals as goal
 use Rattle.modulate.proofs.modulate.Goals.{After-lengths_fit, Else-not-lengths_fit}
@@ -72,5 +71,5 @@ pub returns : goal.returns
 returns c =
     let a = c.args in
     let k = c.first_refused-k in
-    ap (λ (l : List Float). modulates Modulated l) c.fill.ensures
+    ap (λ (l : List Float). modulates (Ok tt) l) c.fill.ensures
     ∙ modulated a.symbol.now a.loads.now a.minus.now khz50 a.out.now k.result (length a.symbol.now) (fit (goal.at.returns c).Else-not-lengths_fit) (sizes (goal.at.returns c).Else-not-lengths_fit).cells c.if-k-symbol.false (k.ensures a.minus.now)

@@ -14,8 +14,8 @@ known c =
     c.on_line.ensures.answer
     ∙ ap₂ (line_answer (get_or a.symbol.now a.k 0)) c.load_of.ensures c.is_minus.ensures
 
-pub returns-in-Is : goal.returns-in-Is
-returns-in-Is c = ap (refused_at c.args.k) (sym c.in-Is.is ∙ known (goal.at.returns-in-Is c).After-on_line)
+pub returns-in-Ok : goal.returns-in-Ok
+returns-in-Ok c = ap (refused_at c.args.k) (sym c.in-Ok.is ∙ known (goal.at.returns-in-Ok c).After-on_line)
 
-pub returns-in-Refused : goal.returns-in-Refused
-returns-in-Refused c = ap (refused_at c.args.k) (sym c.in-Refused.is ∙ known (goal.at.returns-in-Refused c).After-on_line)
+pub returns-in-Err : goal.returns-in-Err
+returns-in-Err c = ap (refused_at c.args.k) (sym c.in-Err.is ∙ known (goal.at.returns-in-Err c).After-on_line)

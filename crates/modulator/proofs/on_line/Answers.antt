@@ -3,9 +3,8 @@ use mathlib.Core.Path.{◌≡◌, refl, sym, ap, ◌∙◌}
 use mathlib.Core.Bool.{true, false}
 use Rattle.points.specs.Points.{load_listed}
 use Rattle.points.proofs.BackLaws.{at_most}
-use Rattle.scaling.specs.declared.ScaledPoint.{ScaledPoint}
 use Rattle.modulator.specs.declared.OnLine.TheVariants.{Point}
-use Rattle.modulator.specs.declared.LineAnswer.TheVariants as a-line
+use Rattle.std.specs.Prelude.{Ok}
 use Rattle.modulator.specs.Lines.{line_from, unmarked, line_of, line_answer, near_line_answer}
 use Rattle.modulator.proofs.LineLaws.{near_line_lem, below_marks, above_marks, at_marks, too_high}
 use Rattle.scaling.proofs.NearLaws.{scaled_23, scaled_at}
@@ -30,7 +29,7 @@ returns-then-cell-lt32773 c =
     let m = c.args.load in
     let s = c.args.minus in
     let t = tried (goal.at.returns-then-cell-lt32773 c).Else-not-load_listed in
-    let e : a-line.Is c.mark_line.result ≡ line_answer v m s = rw (t, at_marks v c.if-cell-ge32768.true c.if-cell-lt32773.true) (ap a-line.Is c.mark_line.ensures) in
+    let e : Ok c.mark_line.result ≡ line_answer v m s = rw (t, at_marks v c.if-cell-ge32768.true c.if-cell-lt32773.true) (ap Ok c.mark_line.ensures) in
     record { answer = e; near = ap (near_line_answer v m) e ∙ near_line_lem v m s }
 
 pub returns-then-cell-ge32768 : goal.returns-then-cell-ge32768
@@ -68,6 +67,6 @@ returns c =
     let s = c.args.minus in
     let t = tried (goal.at.returns c).Else-not-load_listed in
     let q = scaled_at m v t (rw c.power.ensures at c.if-power-value.false) in
-    let e : a-line.Is (Point c.scaled_at.result) ≡ line_answer v m s =
-    rw (t, below_marks v c.if-cell-ge32768.false) (ap (λ (k : ScaledPoint). a-line.Is (Point k)) c.scaled_at.ensures ∙ ap line_from (sym q)) in
+    let e : Ok (Point c.scaled_at.result) ≡ line_answer v m s =
+    rw (t, below_marks v c.if-cell-ge32768.false) (ap Ok (ap Point c.scaled_at.ensures) ∙ ap line_from (sym q)) in
     record { answer = e; near = ap (near_line_answer v m) e ∙ near_line_lem v m s }

@@ -1,8 +1,6 @@
 -- `placeholders::meet` meets its contract. Assumes nothing.
-use Prim.Native.Nat.{◌+◌}
 use mathlib.Core.Path.{◌≡◌, refl, sym, ap, ◌∙◌}
 use native.Mathlib.Omega.{arith}
-use lib.ListN.{length-set}
 use lib.Seq.{sets, take_all}
 use Rattle.counting.specs.Search.{bit, sum, count, tabulate}
 use Rattle.counting.proofs.Laws.{count_le, count_step}
@@ -13,7 +11,7 @@ use Rattle.placeholders.proofs.meet.Goals as goal
 
 pub loop-i-init : goal.loop-i-init
 unfolding count sum
-loop-i-init c = (omega arith, refl, refl, refl)
+loop-i-init c = (refl, refl)
 
 pub overflow_add-n : goal.overflow_add-n
 overflow_add-n c =
@@ -28,10 +26,8 @@ loop-i-preserved c =
     let t = like a.want.now a.kc.now a.b in
     let one : c.one_if_like-one.result ≡ bit (t l.i) = unfold like in c.one_if_like-one.ensures.0 in
     let size = length_tabulate (λ j. bit (t j)) a.k in (
-      omega arith,
-      length-set l.flag (a.b + l.i) c.one_if_like-one.result ∙ l.invariant.1,
-      next_stored a.flag.now (tabulate (λ j. bit (t j)) a.k) l.flag a.b l.i c.one_if_like-one.result l.invariant.2 (omega (arith, size)) (one ∙ sym (get_d_tabulate (λ j. bit (t j)) a.k 0 l.i h)),
-      omega (arith, count_step t l.i, one, l.invariant.3),
+      next_stored a.flag.now (tabulate (λ j. bit (t j)) a.k) l.flag a.b l.i c.one_if_like-one.result l.invariant.0 (omega (arith, size)) (one ∙ sym (get_d_tabulate (λ j. bit (t j)) a.k 0 l.i h)),
+      omega (arith, count_step t l.i, one, l.invariant.1),
     )
 
 pub returns : goal.returns
@@ -39,4 +35,4 @@ returns c =
     let a = c.args in
     let l = c.loop-i in
     let t = like a.want.now a.kc.now a.b in
-    let e : l.i ≡ a.k = omega arith in record { flags = l.invariant.2 ∙ ap (sets a.flag.now a.b) (take_all l.i (tabulate (λ j. bit (t j)) a.k) (omega (arith, length_tabulate (λ j. bit (t j)) a.k))); number = l.invariant.3 ∙ ap (count t) e }
+    let e : l.i ≡ a.k = omega arith in record { flags = l.invariant.0 ∙ ap (sets a.flag.now a.b) (take_all l.i (tabulate (λ j. bit (t j)) a.k) (omega (arith, length_tabulate (λ j. bit (t j)) a.k))); number = l.invariant.1 ∙ ap (count t) e }

@@ -1,5 +1,5 @@
 -- `placeholders::pattern` meets its contract. Assumes nothing.
-use Prim.Native.Nat.{◌-◌, ◌≤◌}
+use Prim.Native.Nat.{◌-◌}
 use mathlib.Core.Path.{◌≡◌}
 use lib.ListN.{take}
 use lib.Seq.{sets}
@@ -8,10 +8,7 @@ use Rattle.placeholders.proofs.Turns.{firstTurn}
 use Rattle.placeholders.proofs.pattern.Given as goal
 
 abbrev pub invariant-loop-d : goal.invariant-loop-d
-invariant-loop-d l = (l.d ≤ l.m) × (l.want ≡ sets l.initial.want 0 (take l.d (firstTurn l.m l.base)))
-
-abbrev pub decreases-loop-d : goal.decreases-loop-d
-decreases-loop-d l = l.m - l.d
+invariant-loop-d l = l.want ≡ sets l.initial.want 0 (take l.d (firstTurn l.m l.base))
 
 abbrev pub invariant-loop-len : goal.invariant-loop-len
 invariant-loop-len l = Wanted l.m l.base l.len l.want

@@ -1,5 +1,4 @@
 -- `placing::place_rows` meets its contract. Assumes nothing.
-use Prim.Native.Nat.{◌*◌, ◌-◌, ◌≤◌}
 use mathlib.Core.Path.{◌≡◌}
 use lib.ListN.{length}
 use Rattle.frame.specs.Rows.{rows_before}
@@ -7,7 +6,4 @@ use Rattle.rows.specs.Loops.{placed_up_to}
 use Rattle.placing.proofs.place_rows.Given as goal
 
 abbrev pub invariant-loop-i : goal.invariant-loop-i
-invariant-loop-i l = (l.i ≤ l.rows) × (l.at ≡ l.i * l.step) × (length l.out ≡ length l.initial.out) × (l.rank ≡ rows_before l.bits (length l.cells) l.i) × (l.out ≡ placed_up_to l.bits l.car l.cells l.rank l.initial.out)
-
-abbrev pub decreases-loop-i : goal.decreases-loop-i
-decreases-loop-i l = l.rows - l.i
+invariant-loop-i l = (l.rank ≡ rows_before l.bits (length l.cells) l.i) × (l.out ≡ placed_up_to l.bits l.car l.cells l.rank l.fn.out)

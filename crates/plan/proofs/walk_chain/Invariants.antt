@@ -4,8 +4,8 @@ use Prim.Native.Nat.{◌-◌}
 use Rattle.plan.specs.Walk.{Kept}
 use Rattle.plan.proofs.walk_chain.Given as goal
 
-abbrev pub invariant-loop-d : goal.invariant-loop-d
-invariant-loop-d l = Kept l.d l.plan l.records l.i l.np l.reach l.hot l.pil l.rec
+abbrev pub invariant-loop-number : goal.invariant-loop-number
+invariant-loop-number l = Kept l.d l.plan l.records l.i l.np l.reach l.hot l.pil l.rec
 
-abbrev pub decreases-loop-d : goal.decreases-loop-d
-decreases-loop-d l = l.records - l.i
+abbrev pub decreases-loop-number : goal.decreases-loop-number
+decreases-loop-number l = l.records - l.i

@@ -4,7 +4,7 @@ use Rattle.report.specs.PlanLine.{plan_line}
 use Rattle.console.proofs.Taken.{taken_line}
 use Rattle.plancheck.proofs.check_input.Goals as goal
 
-pub returns-in-Bytes : goal.returns-in-Bytes
-returns-in-Bytes g c h =
-    taken_line g.O.Write.contents plan_line _ _ _ 65536 c.read.new.bytes _ _ _ _ (omega arith) c.in-Bytes.ensures.holds c.in-Bytes.ensures.takes c.in-Bytes.ensures.output c.read_rest.ensures
+pub returns : goal.returns
+returns g c h =
+    taken_line g.O.Write.contents plan_line _ _ _ 65536 c.read.new.bytes _ _ _ _ (omega arith) (rw c.in-Some.is at c.read.ensures.holds) (rw c.in-Some.is at c.read.ensures.takes) c.read.ensures.output c.read_rest.ensures
     (c.print_plan-printed.ensures h)

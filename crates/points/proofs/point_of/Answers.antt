@@ -3,7 +3,7 @@ use Prim.Native.Nat.{◌^◌}
 use mathlib.Core.Path.{◌≡◌, refl, sym, ap, ◌∙◌}
 use mathlib.Core.Bool.{true, false}
 use borrow.Author.Tests.{lt-ltb, le-ltb}
-use Rattle.points.specs.declared.PointAnswer.TheVariants.{At}
+use Rattle.std.specs.Prelude.{Ok}
 use Rattle.points.specs.Points.{load_listed}
 use Rattle.points.specs.Answers.{point_answer}
 use Rattle.points.proofs.BackLaws.{at_most}
@@ -44,4 +44,4 @@ returns c =
     let m = c.args.load in
     let v = c.args.value in
     let t = tried (goal.at.returns c).Else-not-load_listed in
-    rw (t, lt-ltb v (2 ^ m) (rw c.power.ensures at c.if-power-value.false)) (ap At c.point_at.ensures)
+    rw (t, lt-ltb v (2 ^ m) (rw c.power.ensures at c.if-power-value.false)) (ap Ok c.point_at.ensures)

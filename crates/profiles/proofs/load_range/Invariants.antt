@@ -1,11 +1,7 @@
--- `profiles::load_range` meets its contract. The range of the first k loads. Assumes nothing.
-use Prim.Native.Nat.{◌-◌, ◌≤◌}
-use lib.ListN.{length}
-use Rattle.profiles.proofs.Profiles.{Ranged}
+-- `profiles::load_range` meets its contract. The range of the loads so far. Assumes nothing.
+use Prim.Native.Nat.{ℕ, ◌≤◌, ◌<◌}
+use lib.ListN.{get_or}
 use Rattle.profiles.proofs.load_range.Given as goal
 
-abbrev pub invariant-loop-k : goal.invariant-loop-k
-invariant-loop-k l = (l.k ≤ length l.profile) × Ranged l.profile l.low l.high l.k
-
-abbrev pub decreases-loop-k : goal.decreases-loop-k
-decreases-loop-k l = length l.profile - l.k
+abbrev pub invariant-loop-load : goal.invariant-loop-load
+invariant-loop-load l = (k : ℕ) → k < l.load-index → (l.low ≤ get_or l.profile k 0) × (get_or l.profile k 0 ≤ l.high)

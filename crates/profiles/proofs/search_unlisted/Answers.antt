@@ -1,5 +1,5 @@
 -- `profiles::search_unlisted` meets its contract. The loop has passed k loads, all of them listed. Assumes nothing.
-use mathlib.Core.Path.{◌≡◌, sym}
+use mathlib.Core.Path.{sym}
 use native.Mathlib.Numerals.{add-one}
 use native.Mathlib.Omega.{arith}
 use lib.ListN.{length}
@@ -8,22 +8,16 @@ use Rattle.rules.proofs.Loads.{is_unlisted}
 use Rattle.profiles.proofs.search_unlisted.Goals as goal
 
 pub loop-k-init : goal.loop-k-init
-loop-k-init c = (omega arith, lowest_zero _)
+loop-k-init c = lowest_zero _
 
 pub returns-then-unlisted-ne0 : goal.returns-then-unlisted-ne0
 returns-then-unlisted-ne0 c =
     let w = c.args.profile.now in
     let l = c.loop-k in
-    sym (lowest_here (is_unlisted w) l.k (length w) c.loop-k-test.true l.invariant.1 (bit_true _ (omega (arith, c.unlisted.ensures, c.if-unlisted-ne0.true))))
+    sym (lowest_here (is_unlisted w) l.k (length w) c.loop-k-test.true l.invariant (bit_true _ (omega (arith, c.unlisted.ensures, c.if-unlisted-ne0.true))))
 
 pub loop-k-preserved : goal.loop-k-preserved
 loop-k-preserved c =
     let w = c.args.profile.now in
     let l = c.loop-k in
-    (omega arith, rw add-one (lowest_on (is_unlisted w) l.k l.invariant.1 (bit_false _ (omega (arith, c.unlisted.ensures, c.if-unlisted-ne0.false)))))
-
-pub returns : goal.returns
-returns c =
-    let l = c.loop-k in
-    let e : l.k ≡ length c.args.profile.now = omega arith in
-    sym (rw e at l.invariant.1)
+    rw add-one (lowest_on (is_unlisted w) l.k l.invariant (bit_false _ (omega (arith, c.unlisted.ensures, c.if-unlisted-ne0.false))))

@@ -7,7 +7,7 @@ use borrow.Author.Tests.{lt-ltb, le-ltb}
 use Rattle.counting.specs.Search.{when}
 use Rattle.rules.specs.declared.Device.{Device}
 use Rattle.rules.specs.Plan.{plan_of}
-use Rattle.rules.specs.declared.Verdict.TheVariants.{Accepted}
+use Rattle.std.specs.Prelude.{Ok}
 use Rattle.rules.specs.Roles.{ranked_count}
 use Rattle.rules.specs.Grounds.{many_ranked}
 use Rattle.ranked.specs.Ground15.{ground15}
@@ -30,4 +30,4 @@ returns c =
     let d : Device = g.args.d in
     let n : ℕ = ranked_count d (plan_of g.args.plan.now) in
     let e = c.zeros-ni.ensures.0 ∙ zeros_is d _ _ g.requires.1 in
-    ap Accepted e ∙ whole (when (ltb d.ranked_max n) 0) 15 n (ap (λ (b : Bool). when b 0) (le-ltb d.ranked_max n (subst (λ (x : ℕ). x ≤ d.ranked_max) e c.if-d-ni.false)))
+    ap Ok e ∙ whole (when (ltb d.ranked_max n) 0) 15 n (ap (λ (b : Bool). when b 0) (le-ltb d.ranked_max n (subst (λ (x : ℕ). x ≤ d.ranked_max) e c.if-d-ni.false)))

@@ -1,35 +1,37 @@
 -- `ranked::zeros` meets its contract. Assumes nothing.
 use mathlib.Core.Path.{◌≡◌, refl, sym, ap, ◌∙◌}
 use mathlib.Core.Bool.{Bool}
-use native.Mathlib.Nat.{le_antisymm}
 use native.Mathlib.Omega.{arith}
-use Prim.Native.Nat.{ℕ, ◌+◌}
+use Prim.Native.Nat.{ℕ, ◌+◌, ◌<◌}
+use lib.ListN.{length, take}
+use lib.Seq.{get_or-take, length-take-le}
 use Rattle.counting.specs.Search.{bit, sum, count, is_zero}
 use Rattle.counting.proofs.Laws.{count_le, count_step}
 use Rattle.ranked.proofs.zeros.Goals as goal
+use Rattle.ranked.proofs.zeros.Goals.{Start}
 
-pub loop-k-init : goal.loop-k-init
+places : (c : Start) → length (take c.args.size c.args.m.now) ≡ c.args.size
+places c = length-take-le c.args.size c.args.m.now (omega arith)
+
+pub loop-x-init : goal.loop-x-init
 unfolding count sum
-loop-k-init c = (omega arith, refl)
+loop-x-init c = refl
 
 pub one_more-n-requires : goal.one_more-n-requires
 one_more-n-requires c =
-    let l = c.loop-k in
-    omega (arith, l.invariant.1, count_le (is_zero c.args.m.now) l.k)
+    omega (arith, c.loop-x.invariant, count_le (is_zero c.args.m.now) c.loop-x.x-index, places (goal.at.one_more-n-requires c).Start)
 
-pub loop-k-preserved : goal.loop-k-preserved
+pub loop-x-preserved : goal.loop-x-preserved
 unfolding is_zero
-loop-k-preserved c =
-    let l = c.loop-k in
+loop-x-preserved c =
+    let l = c.loop-x in
     let p : ℕ → Bool = is_zero c.args.m.now in
-    (omega arith, c.one_more-n.ensures ∙ ap (λ (x : ℕ). x + bit (p l.k)) l.invariant.1 ∙ sym (count_step p l.k))
-
-pub overflow_cast-result : goal.overflow_cast-result
-overflow_cast-result c = omega (arith, c.loop-k.invariant.1, count_le (is_zero c.args.m.now) c.loop-k.k, c.loop-k.invariant.0)
+    let here : l.x-index < c.args.size = omega (arith, places (goal.at.loop-x-preserved c).Start) in
+    c.one_more-n.ensures ∙ rw (get_or-take c.args.size c.args.m.now l.x-index 0 here) (ap (λ (x : ℕ). x + bit (p l.x-index)) l.invariant) ∙ sym (count_step p l.x-index)
 
 pub returns : goal.returns
 returns c =
-    let l = c.loop-k in
+    let l = c.loop-x in
     let p : ℕ → Bool = is_zero c.args.m.now in
-    let e : l.k ≡ c.args.size = le_antisymm l.invariant.0 c.loop-k-test.false in
-    (l.invariant.1 ∙ ap (count p) e, omega (arith, l.invariant.1, count_le p l.k))
+    let e : l.x-index ≡ c.args.size = omega (arith, places (goal.at.returns c).Start) in
+    (c.from.ensures ∙ l.invariant ∙ ap (count p) e, omega (arith, l.invariant, count_le p l.x-index))

@@ -3,17 +3,15 @@ use Prim.Native.Nat.{ℕ, ◌-◌}
 use mathlib.Core.Path.{◌≡◌, sym, ap, ◌∙◌}
 use mathlib.Core.Bool.{not, ◌&&◌}
 use mathlib.Core.List.{List}
-use mathlib.Core.Option.{none, some}
+use Rattle.std.specs.Prelude.{Some, None, Ok}
 use native.Mathlib.Omega.{arith}
 use lib.Dec.{ltb}
 use lib.ListN.{length, take}
 use lib.Seq.{length-take-le}
-use Rattle.counting.specs.Answer.{place_of}
 use Rattle.rules.specs.Plan.{plan_of}
 use Rattle.rules.specs.Frame.{frame_of}
 use Rattle.rules.specs.Receive.{warming, short_buffer}
 use Rattle.receiving.proofs.Answers.{arriving}
-use Rattle.receivegrounds.specs.declared.Admission.TheVariants.{Admitted}
 use Rattle.receivegrounds.specs.Stages.{answered}
 use Rattle.receivegrounds.proofs.Stages.{bad_buffer, good_buffer}
 use Rattle.receivegrounds.proofs.last_grounds.Goals as goal
@@ -38,18 +36,18 @@ wrong_cell-requires c =
     let g = c in
     (g.requires.0.fits, g.requires.0.studied, omega (arith, g.requires.4), length-take-le g.args.width g.args.symbol.now g.requires.6 ∙ g.requires.5, g.requires.3)
 
-pub returns-in-At : goal.returns-in-At
+pub returns-in-Some : goal.returns-in-Some
 unfolding frame_of
-returns-in-At c b eb =
+returns-in-Some c b eb =
     let g = c in
     ap (answered ((frame_of g.args.d (plan_of g.args.plan.now))) g.args.state)
-    (good_buffer ((frame_of g.args.d (plan_of g.args.plan.now))) g.args.state ((arriving g.args.profile.now (take g.args.width g.args.symbol.now) b)) (said (goal.at.returns-in-At c).After-lacks b eb ∙ c.if-lacks.false) (some c.in-At.k) (sym (ap place_of c.in-At.is) ∙ c.wrong_cell.ensures))
+    (good_buffer ((frame_of g.args.d (plan_of g.args.plan.now))) g.args.state ((arriving g.args.profile.now (take g.args.width g.args.symbol.now) b)) (said (goal.at.returns-in-Some c).After-lacks b eb ∙ c.if-lacks.false) (Some c.in-Some.k) (sym (c.in-Some.is) ∙ c.wrong_cell.ensures))
 
 pub returns : goal.returns
 unfolding frame_of
 returns c b eb =
     let g = c in
     let pre = g.requires in
-    (λ i. Admitted (pre.1 i) (pre.0.all i) (pre.2 i))
+    (λ i. Ok (record { depth = pre.1 i; cells = pre.0.all i; count = pre.2 i }))
     ∙ ap (answered ((frame_of g.args.d (plan_of g.args.plan.now))) g.args.state)
-    (good_buffer ((frame_of g.args.d (plan_of g.args.plan.now))) g.args.state ((arriving g.args.profile.now (take g.args.width g.args.symbol.now) b)) (said (goal.at.returns c).After-lacks b eb ∙ c.if-lacks.false) none (sym (ap place_of c.in_default.is) ∙ c.wrong_cell.ensures))
+    (good_buffer ((frame_of g.args.d (plan_of g.args.plan.now))) g.args.state ((arriving g.args.profile.now (take g.args.width g.args.symbol.now) b)) (said (goal.at.returns c).After-lacks b eb ∙ c.if-lacks.false) None (sym (c.in_default.is) ∙ c.wrong_cell.ensures))

@@ -40,19 +40,19 @@ admit-requires c =
 pub slice_bounds-hear-end : goal.slice_bounds-hear-end
 slice_bounds-hear-end c = sym c.admit.auto.kc
 
-pub slice_bounds-hear-end-in-Admitted : goal.slice_bounds-hear-end-in-Admitted
-slice_bounds-hear-end-in-Admitted c = sym c.admit.auto.flag
+pub slice_bounds-hear-end-in-Ok : goal.slice_bounds-hear-end-in-Ok
+slice_bounds-hear-end-in-Ok c = sym c.admit.auto.flag
 
 pub hear-requires : goal.hear-requires
 hear-requires c =
     let g = c in
-    let made = c.admit.ensures.made _ _ _ c.in-Admitted.is in
-    (fits (goal.at.hear-requires c).After-khz50_device-d, admitted c.khz50_device-d.result g.args.plan.now ((at g.args.state g.args.store.now)) ((arriving g.args.profile.now g.args.symbol.now g.args.buffer.now)) _ _ _ (sym c.in-Admitted.is ∙ answer (goal.at.hear-requires c).After-admit) made.shallow, made)
+    let made = c.admit.ensures.made _ _ _ c.in-Ok.is in
+    (fits (goal.at.hear-requires c).After-khz50_device-d, admitted c.khz50_device-d.result g.args.plan.now ((at g.args.state g.args.store.now)) ((arriving g.args.profile.now g.args.symbol.now g.args.buffer.now)) _ _ _ (sym c.in-Ok.is ∙ answer (goal.at.hear-requires c).After-admit) made.shallow, made)
 
-pub returns-in-Refused : goal.returns-in-Refused
-returns-in-Refused c =
+pub returns-in-Err : goal.returns-in-Err
+returns-in-Err c =
     let g = c in
-    refused c.khz50_device-d.result g.args.plan.now ((at g.args.state g.args.store.now)) ((arriving g.args.profile.now g.args.symbol.now g.args.buffer.now)) _ _ (sym c.in-Refused.is ∙ answer (goal.at.returns-in-Refused c).After-admit) ∙ stepped (goal.at.returns-in-Refused c).After-khz50_device-d
+    refused c.khz50_device-d.result g.args.plan.now ((at g.args.state g.args.store.now)) ((arriving g.args.profile.now g.args.symbol.now g.args.buffer.now)) _ _ (sym c.in-Err.is ∙ answer (goal.at.returns-in-Err c).After-admit) ∙ stepped (goal.at.returns-in-Err c).After-khz50_device-d
 
 pub shape_of-store : goal.shape_of-store
 shape_of-store c = c.hear.auto.store
@@ -60,9 +60,9 @@ shape_of-store c = c.hear.auto.store
 pub shape_of-buffer : goal.shape_of-buffer
 shape_of-buffer c = c.hear.auto.buffer
 
-pub returns-in-Admitted : goal.returns-in-Admitted
-returns-in-Admitted c =
+pub returns-in-Ok : goal.returns-in-Ok
+returns-in-Ok c =
     let g = c in
     c.hear.ensures
-    ∙ none_refuses c.khz50_device-d.result g.args.plan.now ((at g.args.state g.args.store.now)) ((arriving g.args.profile.now g.args.symbol.now g.args.buffer.now)) _ _ _ (sym c.in-Admitted.is ∙ answer (goal.at.returns-in-Admitted c).After-admit)
-    ∙ stepped (goal.at.returns-in-Admitted c).After-khz50_device-d
+    ∙ none_refuses c.khz50_device-d.result g.args.plan.now ((at g.args.state g.args.store.now)) ((arriving g.args.profile.now g.args.symbol.now g.args.buffer.now)) _ _ _ (sym c.in-Ok.is ∙ answer (goal.at.returns-in-Ok c).After-admit)
+    ∙ stepped (goal.at.returns-in-Ok c).After-khz50_device-d

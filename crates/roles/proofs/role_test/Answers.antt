@@ -8,8 +8,7 @@ use Rattle.rules.specs.Bands.{excluded}
 use Rattle.rules.specs.Roles.{one_of, in_plc, continuous}
 use Rattle.roles.proofs.Testing.{in_plc_lem, off_plc, role_is, among_pilots, told_excluded, told_active, told_pilot, told_ranked, scattered_is}
 use Rattle.roles.proofs.role_test.Goals as goal
-use Rattle.roles.proofs.role_test.Goals.{then-l-k+else-k-l, else-l-k}
-use Rattle.roles.proofs.role_test.Goals.{Else-m-eq-CONTINUOUS, Else-m-eq-EXCLUDED, Joined-l-k}
+use Rattle.roles.proofs.role_test.Goals.{then-l-k+else-k-l, else-l-k, Else-m-eq-CONTINUOUS, Else-m-eq-EXCLUDED, Joined-l-k}
 
 -- what the tests that failed leave: k is not excluded, not in the PLC, no pilot
 active : (c : Else-m-eq-EXCLUDED) → excluded (plan_of c.args.plan.now) c.args.k ≡ false

@@ -1,12 +1,7 @@
 -- `samples::draw` meets its contract. The loop has put the first i cells. Assumes nothing.
-use Prim.Native.Nat.{◌-◌, ◌≤◌}
 use mathlib.Core.Path.{◌≡◌}
-use lib.ListN.{length}
 use Rattle.samples.specs.Drawn.{nth, drawn_at, filled}
 use Rattle.samples.proofs.draw.Given as goal
 
 abbrev pub invariant-loop-i : goal.invariant-loop-i
-invariant-loop-i l = (l.i ≤ l.end) × (length l.cells ≡ length l.initial.cells) × (l.last ≡ nth l.x l.i) × (l.cells ≡ filled (drawn_at l.x) l.i l.initial.cells)
-
-abbrev pub decreases-loop-i : goal.decreases-loop-i
-decreases-loop-i l = l.end - l.i
+invariant-loop-i l = (l.last ≡ nth l.x l.i) × (l.cells ≡ filled (drawn_at l.x) l.i l.initial.cells)

@@ -3,7 +3,7 @@ use mathlib.Core.Path.{◌≡◌, refl, sym, ap, ◌∙◌}
 use mathlib.Core.Bool.{true, false}
 use Rattle.points.specs.Points.{load_listed}
 use Rattle.points.proofs.BackLaws.{covered, at_most}
-use Rattle.scaling.specs.declared.RootAnswer.TheVariants.{Root}
+use Rattle.std.specs.Prelude.{Ok}
 use Rattle.scaling.specs.Scale.{root_answer}
 use Rattle.scaling.proofs.root_of.Goals as goal
 use Rattle.scaling.proofs.root_of.Goals.{Else-not-load_listed}
@@ -29,4 +29,4 @@ pub returns : goal.returns
 unfolding root_answer
 returns c =
     let t = tried (goal.at.returns c).Else-not-load_listed in
-    rw t (ap Root c.root_at.ensures)
+    rw t (ap Ok c.root_at.ensures)

@@ -3,7 +3,7 @@ use mathlib.Core.Path.{◌≡◌, refl, sym, ap, ◌∙◌}
 use mathlib.Core.Bool.{true}
 use Rattle.points.specs.Points.{load_listed}
 use Rattle.points.proofs.BackLaws.{at_most}
-use Rattle.scaling.specs.declared.ScaledAnswer.TheVariants.{At}
+use Rattle.std.specs.Prelude.{Ok}
 use Rattle.scaling.specs.Scale.{scaled_answer, near_answer}
 use Rattle.scaling.proofs.NearLaws.{near_scaled, scaled_22, scaled_23, scaled_at}
 use Rattle.scaling.proofs.scaled_of.Goals as goal
@@ -42,5 +42,5 @@ returns c =
     let m = c.args.load in
     let v = c.args.value in
     let t = tried (goal.at.returns c).Else-not-load_listed in
-    let e : At c.scaled_at.result ≡ scaled_answer m v = ap At c.scaled_at.ensures ∙ sym (scaled_at m v t (rw c.power.ensures at c.if-power-value.false)) in
+    let e : Ok c.scaled_at.result ≡ scaled_answer m v = ap Ok c.scaled_at.ensures ∙ sym (scaled_at m v t (rw c.power.ensures at c.if-power-value.false)) in
     record { answer = e; near = ap (near_answer m v) e ∙ near_scaled m v }

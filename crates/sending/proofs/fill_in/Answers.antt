@@ -16,8 +16,7 @@ use Rattle.sending.proofs.fill_in.Goals.{Else-number-nd}
 many : (c : Else-number-nd) → let a = c.args in a.nd ≤ length a.given.now
 unfolding frame_of
 many c =
-    let g = c in
-    omega (arith, c.if-number-nd.false, g.requires.8 (omega (arith, c.if-number-nd.false, g.requires.7, data_le ((frame_of g.args.d (plan_of g.args.plan.now))) g.args.phase, cells_le ((frame_of g.args.d (plan_of g.args.plan.now))))))
+    omega (arith, c.if-number-nd.false, c.requires.8 (omega (arith, c.if-number-nd.false, c.requires.7, data_le (frame_of c.args.d (plan_of c.args.plan.now)) c.args.phase, cells_le (frame_of c.args.d (plan_of c.args.plan.now)))))
 
 -- and are so many of the first ones
 part : (c : Else-number-nd) → let a = c.args in length (take a.nd a.given.now) ≡ a.nd
@@ -25,29 +24,24 @@ part c = let a = c.args in length-take-le a.nd a.given.now (many c)
 
 pub returns-then-flushing : goal.returns-then-flushing
 returns-then-flushing c =
-    let g = c in
-    let a = g.args in
-    λ ds _. by_flush ((frame_of g.args.d (plan_of g.args.plan.now))) a.profile.now a.phase _ a.flushing c.if-flushing.true
-    (flushed ((frame_of g.args.d (plan_of g.args.plan.now))) a.phase a.flag.now g.requires.6 _ _ g.requires.2 c.fill_filler.ensures) ds
+    let a = c.args in
+    λ ds _. by_flush (frame_of c.args.d (plan_of c.args.plan.now)) a.profile.now a.phase _ a.flushing c.if-flushing.true
+    (flushed (frame_of c.args.d (plan_of c.args.plan.now)) a.phase a.flag.now c.requires.6 _ _ c.requires.2 c.fill_filler.ensures) ds
 
 pub returns-then-number-nd : goal.returns-then-number-nd
 returns-then-number-nd c =
-    let g = c in
-    let a = g.args in
-    bad_number ((frame_of g.args.d (plan_of g.args.plan.now))) a.profile.now a.phase _ a.flushing c.if-flushing.false a.number a.given.now (λ z. c.if-number-nd.true (z ∙ sym g.requires.7))
+    let a = c.args in
+    bad_number (frame_of c.args.d (plan_of c.args.plan.now)) a.profile.now a.phase _ a.flushing c.if-flushing.false a.number a.given.now (λ z. c.if-number-nd.true (z ∙ sym c.requires.7))
 
 pub slice_bounds-fill_checked-end : goal.slice_bounds-fill_checked-end
 slice_bounds-fill_checked-end c = sym (part c)
 
 pub fill_checked-requires : goal.fill_checked-requires
 fill_checked-requires c =
-    let g = c in
-    (g.requires.0, g.requires.1 c.if-flushing.false, g.requires.2, g.requires.3, g.requires.4, g.requires.5, g.requires.6, part (goal.at.fill_checked-requires c).Else-number-nd ∙ g.requires.7)
+    (c.requires.0, c.requires.1 c.if-flushing.false, c.requires.2, c.requires.3, c.requires.4, c.requires.5, c.requires.6, part (goal.at.fill_checked-requires c).Else-number-nd ∙ c.requires.7)
 
 pub returns : goal.returns
 returns c =
-    let k = c in
-    let g = k in
-    let a = g.args in
-    by_data ((frame_of g.args.d (plan_of g.args.plan.now))) a.profile.now a.phase _ a.flushing k.if-flushing.false a.number a.given.now a.nd (many (goal.at.returns c).Else-number-nd) k.if-number-nd.false g.requires.7 _
+    let a = c.args in
+    by_data (frame_of c.args.d (plan_of c.args.plan.now)) a.profile.now a.phase _ a.flushing c.if-flushing.false a.number a.given.now a.nd (many (goal.at.returns c).Else-number-nd) c.if-number-nd.false c.requires.7 _
     c.fill_checked.ensures.found c.fill_checked.ensures.made

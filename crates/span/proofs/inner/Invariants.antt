@@ -1,7 +1,7 @@
 -- `span::inner` meets its contract. Assumes nothing.
 use mathlib.Core.Path.{◌≡◌}
 use lib.ListN.{get_or}
-use Prim.Native.Nat.{◌+◌, ◌-◌, ◌≤◌}
+use Prim.Native.Nat.{◌+◌}
 use Rattle.counting.specs.Search.{count}
 use Rattle.rules.specs.Plan.{plan_of}
 use Rattle.rules.specs.Bands.{excluded}
@@ -9,7 +9,4 @@ use Rattle.counting.specs.Runs.{before}
 use Rattle.span.proofs.inner.Given as goal
 
 abbrev pub invariant-loop-i : goal.invariant-loop-i
-invariant-loop-i l = (1 ≤ l.i) × (l.i + 1 ≤ l.n) × (l.sum + count (excluded (plan_of l.plan)) (get_or l.hi 0 0) ≡ count (excluded (plan_of l.plan)) (before l.hi l.i))
-
-abbrev pub decreases-loop-i : goal.decreases-loop-i
-decreases-loop-i l = l.n - l.i
+invariant-loop-i l = l.sum + count (excluded (plan_of l.plan)) (get_or l.hi 0 0) ≡ count (excluded (plan_of l.plan)) (before l.hi l.i)

@@ -1,12 +1,8 @@
--- `sums::mixed_cells` meets its contract. The loop has taken in the first i cells. Assumes nothing.
-use Prim.Native.Nat.{◌-◌, ◌≤◌}
+-- `sums::mixed_cells` meets its contract. The loop has taken in the cells before the next. Assumes nothing.
 use mathlib.Core.Path.{◌≡◌}
-use lib.ListN.{length, take}
+use lib.ListN.{take}
 use Rattle.sums.specs.Sums.{mix_all}
 use Rattle.sums.proofs.mixed_cells.Given as goal
 
-abbrev pub invariant-loop-i : goal.invariant-loop-i
-invariant-loop-i l = (l.i ≤ l.n) × (l.i ≤ length l.cells) × (l.mix ≡ mix_all l.sum (take l.i l.cells))
-
-abbrev pub decreases-loop-i : goal.decreases-loop-i
-decreases-loop-i l = l.n - l.i
+abbrev pub invariant-loop-x : goal.invariant-loop-x
+invariant-loop-x l = l.mix ≡ mix_all l.sum (take l.x-index l.x-items)

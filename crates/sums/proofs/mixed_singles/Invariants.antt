@@ -1,12 +1,8 @@
--- `sums::mixed_singles` meets its contract. The loop has taken in the first i numbers. Assumes nothing.
-use Prim.Native.Nat.{◌-◌, ◌≤◌}
+-- `sums::mixed_singles` meets its contract. The loop has taken in the numbers before the next. Assumes nothing.
 use mathlib.Core.Path.{◌≡◌}
-use lib.ListN.{length, take}
+use lib.ListN.{take}
 use Rattle.sums.specs.Sums.{mix_all, patterns}
 use Rattle.sums.proofs.mixed_singles.Given as goal
 
-abbrev pub invariant-loop-i : goal.invariant-loop-i
-invariant-loop-i l = (l.i ≤ length l.singles) × (l.mix ≡ mix_all l.sum (patterns (take l.i l.singles)))
-
-abbrev pub decreases-loop-i : goal.decreases-loop-i
-decreases-loop-i l = length l.singles - l.i
+abbrev pub invariant-loop-y : goal.invariant-loop-y
+invariant-loop-y l = l.mix ≡ mix_all l.sum (patterns (take l.y-index l.singles))

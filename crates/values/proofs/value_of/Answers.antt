@@ -1,7 +1,7 @@
 -- `values::value_of` meets its contract: 22, then 24, else the one value. Assumes nothing.
 use mathlib.Core.Path.{◌≡◌, refl, sym, ap, ◌∙◌}
 use mathlib.Core.Bool.{true, false}
-use Rattle.values.specs.declared.ValueAnswer.TheVariants.{Value}
+use Rattle.std.specs.Prelude.{Ok}
 use Rattle.points.specs.Points.{at, load_listed}
 use Rattle.values.specs.Answers.{value_answer}
 use Rattle.points.specs.Back.{inside, back}
@@ -63,4 +63,4 @@ returns c =
     let fy = c.ranges.y in
     let t = tried (goal.at.returns c).Else-not-load_listed in
     let i = sym (asked (goal.at.returns c).After-inside) ∙ c.if-not-inside.false in
-    rw (t, one_value m (at x y) (covered m t) i) (ap Value (known_point (back m) x y fx fy c.back.ensures))
+    rw (t, one_value m (at x y) (covered m t) i) (ap Ok (known_point (back m) x y fx fy c.back.ensures))

@@ -1,47 +1,37 @@
--- `why::first_record` meets its contract. The loop stands at record i of the chain, and none before it has the effect. Assumes nothing.
-use mathlib.Core.Path.{sym, ◌∙◌}
-use native.Mathlib.Omega.{arith}
+-- `why::first_record` meets its contract. The loop stands at record i of the chain, and none before it passes. Assumes nothing.
+use Rattle.std.proofs.Common.{of_calls, sym, ◌∙◌, ◌<◌, ◌/◌, length, arith}
 use Rattle.records.specs.Read.{entry_of}
-use Rattle.records.proofs.RecordLaws.{Sized, length_fine}
+use Rattle.records.proofs.RecordLaws.{length_fine}
 use Rattle.why.proofs.Chains.{stands_first, found_here, ends_low, ends_high, stands_next}
 use Rattle.why.proofs.first_record.Goals as goal
-use Rattle.why.proofs.first_record.Goals.{Start}
 
--- how long the plan is
-sized : (g : Start) → Sized g.args.plan.now
-sized g = length_fine g.args.plan.now g.requires
-
-pub loop-effect-init : goal.loop-effect-init
-loop-effect-init c = stands_first _ _ (omega (arith, (sized (goal.at.loop-effect-init c).Start).some))
+pub loop-e-init : goal.loop-e-init
+loop-e-init g c =
+    let k : 0 < length c.args.plan.now / 8 = omega (arith, (length_fine c.args.plan.now c.requires.sized).some) in
+    record { here = k; stands = λ t h. stands_first t c.args.plan.now k }
 
 pub record_at-e-requires : goal.record_at-e-requires
-record_at-e-requires c = (omega (arith, c.loop-effect.invariant.here), omega (arith, c.loop-effect.invariant.here, (sized (goal.at.record_at-e-requires c).Start).most))
+record_at-e-requires g c =
+    (omega (arith, c.loop-e.invariant.here), omega (arith, c.loop-e.invariant.here, (length_fine c.args.plan.now c.requires.sized).most))
 
 pub overflow_cast-result : goal.overflow_cast-result
-overflow_cast-result c = omega (arith, c.loop-effect.invariant.here, (sized (goal.at.overflow_cast-result c).Start).most)
+overflow_cast-result g c = omega (arith, c.loop-e.invariant.here, (length_fine c.args.plan.now c.requires.sized).most)
 
-pub returns-then-has_effect : goal.returns-then-has_effect
-returns-then-has_effect c =
-    let r = c in
-    found_here _ _ _ r.loop-effect.invariant (entry_of r.record_at-e.result) r.record_at-e.ensures.0 (sym c.has_effect.ensures ∙ c.if-has_effect.true)
-
-pub overflow_add-after : goal.overflow_add-after
-overflow_add-after c = omega (arith, c.loop-effect.invariant.here, (sized (goal.at.overflow_add-after c).Start).most)
+pub returns-then-passes : goal.returns-then-passes
+returns-then-passes g c t h =
+    found_here _ _ _ (c.loop-e.invariant.stands t h) (entry_of c.record_at-e.result) c.record_at-e.ensures.0 (sym (h _ _ (search of_calls)) ∙ c.if-passes.true)
 
 pub returns-then-e-after : goal.returns-then-e-after
-returns-then-e-after c =
-    let r = c in
-    ends_low _ _ _ r.loop-effect.invariant (entry_of r.record_at-e.result) r.record_at-e.ensures.0 (sym c.has_effect.ensures ∙ c.if-has_effect.false) (omega (arith, c.if-e-after.true))
+returns-then-e-after g c t h =
+    ends_low _ _ _ (c.loop-e.invariant.stands t h) (entry_of c.record_at-e.result) c.record_at-e.ensures.0 (sym (h _ _ (search of_calls)) ∙ c.if-passes.false) (omega (arith, c.if-e-after.true))
 
 pub returns-then-records-e : goal.returns-then-records-e
-returns-then-records-e c =
-    let r = c in
-    ends_high _ _ _ r.loop-effect.invariant (entry_of r.record_at-e.result) r.record_at-e.ensures.0 (sym c.has_effect.ensures ∙ c.if-has_effect.false) c.if-records-e.true
+returns-then-records-e g c t h =
+    ends_high _ _ _ (c.loop-e.invariant.stands t h) (entry_of c.record_at-e.result) c.record_at-e.ensures.0 (sym (h _ _ (search of_calls)) ∙ c.if-passes.false) c.if-records-e.true
 
-pub loop-effect-smaller : goal.loop-effect-smaller
-loop-effect-smaller c = omega (arith, c.if-e-after.false, c.if-records-e.false)
-
-pub loop-effect-preserved : goal.loop-effect-preserved
-loop-effect-preserved c =
-    let r = c in
-    stands_next _ _ _ r.loop-effect.invariant (entry_of r.record_at-e.result) r.record_at-e.ensures.0 (sym c.has_effect.ensures ∙ c.if-has_effect.false) (omega (arith, c.if-e-after.false)) (omega (arith, c.if-records-e.false))
+pub loop-e-preserved : goal.loop-e-preserved
+loop-e-preserved g c = record {
+  here = omega (arith, c.if-records-e.false);
+  stands = λ t h.
+      stands_next _ _ _ (c.loop-e.invariant.stands t h) (entry_of c.record_at-e.result) c.record_at-e.ensures.0 (sym (h _ _ (search of_calls)) ∙ c.if-passes.false) (omega (arith, c.if-e-after.false)) (omega (arith, c.if-records-e.false));
+}

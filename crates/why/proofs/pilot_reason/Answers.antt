@@ -2,12 +2,14 @@
 use mathlib.Core.Path.{◌≡◌, sym, ap, ◌∙◌}
 use mathlib.Core.Bool.{Bool, true, false}
 use native.Mathlib.Omega.{arith}
+use Rattle.rules.specs.declared.Reason.TheVariants.{PilotAbove, PilotBy}
 use Rattle.rules.specs.Plan.{plan_of}
 use Rattle.rules.specs.Roles.{one_of, predefined}
 use Rattle.facts.proofs.Accepted.{good_length, long, plc_in}
 use Rattle.roles.proofs.Distances.{pilot_past}
-use Rattle.rules.specs.declared.WhyAnswer.TheVariants.{PilotAbove, PilotBy}
 use Rattle.why.proofs.Pilots.{by_record, by_below, by_above}
+use Rattle.reasons.specs.Reasons.{makes_pilot}
+use Rattle.std.proofs.Common.{rules}
 use Rattle.why.proofs.pilot_reason.Goals as goal
 use Rattle.why.proofs.pilot_reason.Goals.{After-is_among, After-number_at-l}
 
@@ -29,14 +31,14 @@ pilots_of-requires c =
     let w = plc_in g.args.d g.args.plan.now g.requires.1 in
     (g.requires.0, omega (arith, plc c, w.0), omega (arith, plc c, w.1))
 
-pub first_record-requires : goal.first_record-requires
-first_record-requires c = let g = c in good_length g.args.d g.args.plan.now g.requires.1
+pub first_record-requires-clause-sized : goal.first_record-requires-clause-sized
+first_record-requires-clause-sized c = let g = c in good_length g.args.d g.args.plan.now g.requires.1
 
 pub returns-then-not-is_among : goal.returns-then-not-is_among
 returns-then-not-is_among c =
     let n = c in
     let g = n in
-    ap PilotBy c.first_record.ensures
+    ap PilotBy (c.first_record.ensures (makes_pilot c.args.k) (λ e b h. search rules))
     ∙ by_record g.args.d g.args.plan.now g.args.k n.number_at-l.result (plc (goal.at.returns-then-not-is_among c).After-number_at-l) (among (goal.at.returns-then-not-is_among c).After-is_among false c.if-not-is_among.true)
 
 pub returns-then-k-l : goal.returns-then-k-l

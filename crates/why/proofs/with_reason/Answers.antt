@@ -1,10 +1,11 @@
 -- `why::with_reason` meets its contract, role by role. Assumes nothing.
 use mathlib.Core.Path.{◌≡◌, sym, ap, ◌∙◌}
 use Rattle.rules.specs.declared.Role.{Role}
+use Rattle.rules.specs.declared.Reason.TheVariants.{ExcludedBy, DataBut}
 use Rattle.facts.proofs.Accepted.{good_length}
-use Rattle.rules.specs.declared.WhyAnswer.TheVariants.{ExcludedBy, DataBut}
-use Rattle.reasons.specs.Reasons.{with_reason}
+use Rattle.reasons.specs.Reasons.{excludes, with_reason}
 use Rattle.why.proofs.Answered.{data_ranked}
+use Rattle.std.proofs.Common.{rules}
 use Rattle.why.proofs.with_reason.Goals as goal
 use Rattle.why.proofs.with_reason.Goals.{Start}
 
@@ -12,8 +13,8 @@ use Rattle.why.proofs.with_reason.Goals.{Start}
 of_role : (g : Start) (r : Role) → g.args.r ≡ r → with_reason g.args.d g.args.plan.now g.args.k g.args.j r ≡ with_reason g.args.d g.args.plan.now g.args.k g.args.j g.args.r
 of_role g r e = sym (ap (with_reason g.args.d g.args.plan.now g.args.k g.args.j) e)
 
-pub first_record-requires : goal.first_record-requires
-first_record-requires c = let g = c in good_length g.args.d g.args.plan.now g.requires.1
+pub first_record-requires-clause-sized : goal.first_record-requires-clause-sized
+first_record-requires-clause-sized c = let g = c in good_length g.args.d g.args.plan.now g.requires.1
 
 pub scattered_phase-requires : goal.scattered_phase-requires
 scattered_phase-requires c =
@@ -22,7 +23,7 @@ scattered_phase-requires c =
 
 pub returns-in-Excluded : goal.returns-in-Excluded
 unfolding with_reason
-returns-in-Excluded c = ap ExcludedBy c.first_record.ensures ∙ of_role (goal.at.returns-in-Excluded c).Start _ c.in-Excluded.is
+returns-in-Excluded c = ap ExcludedBy (c.first_record.ensures (excludes c.args.k) (λ e b h. search rules)) ∙ of_role (goal.at.returns-in-Excluded c).Start _ c.in-Excluded.is
 
 pub returns-in-Plc : goal.returns-in-Plc
 unfolding with_reason

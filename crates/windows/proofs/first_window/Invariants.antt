@@ -1,5 +1,4 @@
 -- `windows::first_window` meets its contract. The loop keeps that no band before band j has a full window. Assumes nothing.
-use Prim.Native.Nat.{◌-◌}
 use Rattle.rules.specs.Plan.{plan_of}
 use Rattle.windows.specs.Windows.{window_in}
 use Rattle.limits.proofs.Searching.{Searched}
@@ -7,6 +6,3 @@ use Rattle.windows.proofs.first_window.Given as goal
 
 abbrev pub invariant-loop-j : goal.invariant-loop-j
 invariant-loop-j l = Searched (window_in (plan_of l.plan) l.size l.most) l.a l.b l.m l.j
-
-abbrev pub decreases-loop-j : goal.decreases-loop-j
-decreases-loop-j l = l.m - l.j

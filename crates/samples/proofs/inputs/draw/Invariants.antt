@@ -1,13 +1,8 @@
 -- `samples::inputs::draw` meets its contract. The loop has put the first i cells. Assumes nothing.
-use Prim.Native.Nat.{◌-◌, ◌≤◌}
 use mathlib.Core.Path.{◌≡◌}
-use lib.ListN.{length}
 use Rattle.samples.specs.Drawn.{filled}
 use Rattle.samples.specs.Inputs.{data_cell}
 use Rattle.samples.proofs.inputs.draw.Given as goal
 
 abbrev pub invariant-loop-i : goal.invariant-loop-i
-invariant-loop-i l = (l.i ≤ l.end) × (length l.cells ≡ length l.initial.cells) × (l.cells ≡ filled (data_cell l.seed l.limits) l.i l.initial.cells)
-
-abbrev pub decreases-loop-i : goal.decreases-loop-i
-decreases-loop-i l = l.end - l.i
+invariant-loop-i l = l.cells ≡ filled (data_cell l.seed l.limits) l.i l.initial.cells
