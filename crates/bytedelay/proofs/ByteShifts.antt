@@ -32,10 +32,10 @@ low_at (x ∷ c) (suc i) = let e : 2 * suc i + 1 ≡ suc (suc (2 * i + 1)) = ome
 -- ---- the shift
 
 -- byte q after the shift of n cells
-unfoldable next_byte : ℕ → List ℕ → ℕ → ℕ
+unfoldable pub next_byte : ℕ → List ℕ → ℕ → ℕ
 next_byte n s q = pick (ltb (q + 2) (2 * n)) (get_or s (q + 2) 0) (get_or s q 0)
 
-byte_in : (n : ℕ) (s : List ℕ) (q : ℕ) → q + 2 < 2 * n → next_byte n s q ≡ get_or s (q + 2) 0
+pub byte_in : (n : ℕ) (s : List ℕ) (q : ℕ) → q + 2 < 2 * n → next_byte n s q ≡ get_or s (q + 2) 0
 unfolding next_byte
 byte_in n s q h = rw (lt-ltb (q + 2) (2 * n) h) refl
 

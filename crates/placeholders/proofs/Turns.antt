@@ -56,7 +56,7 @@ wanted_first m base d s y pos few h el ey = record {
     size = length_tabulate (λ i. (base + i) % phases) m
 
 -- as many turns again
-pub wanted_twice : (m base len : ℕ) (want y : List ℕ) → len < 128 → Wanted m base len want → length y ≡ length want
+pub wanted_twice : (m base len : ℕ) (want y : List ℕ) → len ≤ 128 → Wanted m base len want → length y ≡ length want
     → CopiedTo want y 0 len (len - 0) × SameBelow want y len → Wanted m base (len * 2) y
 wanted_twice m base len want y low w long (copied, below) = record {
   long = long ∙ w.long;

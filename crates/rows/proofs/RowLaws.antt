@@ -142,12 +142,16 @@ reversed_wide b (suc m) k =
         let hi : x * 2 / 2 ≡ x = omega arith in
         rw (lo, hi) (omega arith)
 
-pub in_table : (b step i : ℕ) → b ≤ row_bits_max → step ≡ 2 ^ (row_bits_max - b) → i < 2 ^ b → i * step < 256
+pub in_table : (b step i : ℕ) → b ≤ row_bits_max → step ≡ 2 ^ (row_bits_max - b) → i < 2 ^ b → i * step + step ≤ 256
 in_table b step i hb es h =
     let e : b + (row_bits_max - b) ≡ row_bits_max = omega arith in
     let w : 2 ^ b * 2 ^ (row_bits_max - b) ≡ 256 = sym (pow-add 2 b (row_bits_max - b)) ∙ ap (λ (x : ℕ). 2 ^ x) e in
     let g : suc i ≤ 2 ^ b = omega arith in
-    rw es (omega (arith, w, mul-le-mul_right (2 ^ (row_bits_max - b)) g, pow_pos (row_bits_max - b)))
+    rw es (omega (arith, w, mul-le-mul_right (2 ^ (row_bits_max - b)) g))
+
+-- so the row of the table has a place in it
+pub row_in_table : (b step i : ℕ) → b ≤ row_bits_max → step ≡ 2 ^ (row_bits_max - b) → i < 2 ^ b → i * step < 256
+row_in_table b step i hb es h = omega (arith, in_table b step i hb es h, es, pow_pos (row_bits_max - b))
 
 pub row_at : (b step i : ℕ) → b ≤ row_bits_max → step ≡ 2 ^ (row_bits_max - b) → reversed row_bits_max (i * step) ≡ reversed b i
 row_at b step i hb es =

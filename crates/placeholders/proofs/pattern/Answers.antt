@@ -14,4 +14,4 @@ loop-len-init c =
 pub loop-len-preserved : goal.loop-len-preserved
 loop-len-preserved c =
     let e = c.copy_within.ensures in
-    wanted_twice _ _ _ _ _ c.loop-len-test.true c.loop-len.invariant e.len (e.by_index.0, e.by_index.1)
+    wanted_twice _ _ _ _ _ (omega (arith, c.loop-len-test.true)) c.loop-len.invariant e.len (e.by_index.0, e.by_index.1)

@@ -9,7 +9,7 @@ use Rattle.rules.specs.Frame.{reversed}
 use Rattle.walk.specs.Stores.{stores}
 use Rattle.walk.proofs.Rows.{rows_none}
 use Rattle.rows.specs.Loops.{placed_up_to}
-use Rattle.rows.proofs.RowLaws.{all_rows, in_table, row_at}
+use Rattle.rows.proofs.RowLaws.{all_rows, row_in_table, row_at}
 use Rattle.placing.proofs.place_rows.Goals as goal
 use Rattle.placing.proofs.place_rows.Goals.{After-octet-row}
 
@@ -18,7 +18,7 @@ row_is : (c : After-octet-row) → c.octet-row.result ≡ reversed c.args.bits c
 unfolding tabulate reversed
 row_is c =
     let n : c.loop-i.i < 2 ^ c.args.bits = omega (arith, c.loop-i-test.true, c.power-rows.ensures) in
-    let t = in_table _ _ _ c.requires.0 c.power-step.ensures n in
+    let t = row_in_table _ _ _ c.requires.0 c.power-step.ensures n in
     c.octet-row.ensures ∙ get_d_tabulate (reversed row_bits_max) 256 0 (c.loop-i.i * c.power-step.result) t
     ∙ row_at _ _ _ c.requires.0 c.power-step.ensures
 
@@ -27,7 +27,7 @@ unfolding stores
 loop-i-init c = (sym (rows_none _ _), refl)
 
 pub bounds-order-i : goal.bounds-order-i
-bounds-order-i c = in_table _ _ _ c.requires.0 c.power-step.ensures (omega (arith, c.loop-i-test.true, c.power-rows.ensures))
+bounds-order-i c = row_in_table _ _ _ c.requires.0 c.power-step.ensures (omega (arith, c.loop-i-test.true, c.power-rows.ensures))
 
 pub place_row-rank-requires : goal.place_row-rank-requires
 place_row-rank-requires c =

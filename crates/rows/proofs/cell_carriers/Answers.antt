@@ -11,7 +11,7 @@ use Rattle.frame.specs.Rows.{rows_before}
 use Rattle.walk.specs.Stores.{stores}
 use Rattle.walk.proofs.Rows.{rows_none}
 use Rattle.rows.specs.Loops.{carried_up_to}
-use Rattle.rows.proofs.RowLaws.{all_rows, in_table, row_at}
+use Rattle.rows.proofs.RowLaws.{all_rows, row_in_table, row_at}
 use Rattle.rows.proofs.cell_carriers.Goals as goal
 use Rattle.rows.proofs.cell_carriers.Goals.{After-octet-row}
 
@@ -20,7 +20,7 @@ row_is : (c : After-octet-row) → c.octet-row.result ≡ reversed c.args.bits c
 unfolding tabulate reversed
 row_is c =
     let n : c.loop-i.i < 2 ^ c.args.bits = omega (arith, c.loop-i-test.true, c.power-rows.ensures) in
-    let t = in_table _ _ _ c.requires.0 c.power-step.ensures n in
+    let t = row_in_table _ _ _ c.requires.0 c.power-step.ensures n in
     c.octet-row.ensures ∙ get_d_tabulate (reversed row_bits_max) 256 0 (c.loop-i.i * c.power-step.result) t
     ∙ row_at _ _ _ c.requires.0 c.power-step.ensures
 
@@ -29,7 +29,7 @@ unfolding stores
 loop-i-init c = (sym (rows_none _ _), refl)
 
 pub bounds-order-i : goal.bounds-order-i
-bounds-order-i c = in_table _ _ _ c.requires.0 c.power-step.ensures (omega (arith, c.loop-i-test.true, c.power-rows.ensures))
+bounds-order-i c = row_in_table _ _ _ c.requires.0 c.power-step.ensures (omega (arith, c.loop-i-test.true, c.power-rows.ensures))
 
 pub carry_row-rank-requires : goal.carry_row-rank-requires
 carry_row-rank-requires c =
