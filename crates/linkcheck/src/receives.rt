@@ -1,4 +1,8 @@
 // The receives of linkcheck: before each right one a wrong one, which has to be refused.
+ghost use Rattle.std.specs.Prelude.{◌≡◌, get_or};
+ghost use Rattle.samples.specs.Inputs.{first_of};
+ghost use Rattle.linkcheck.specs.Spoiled.{is_spoiled};
+
 use crate::cell_limits;
 use crate::link::{Link, PHASES, STORE, SYMBOL, answered, count_of, differs, less, more, refused};
 use console::Standard;
@@ -113,8 +117,10 @@ fn tried(link: Link, kind: ReceiveKind, code: u32, place: usize) -> bool {
     }
 }
 
-// Which cell of the symbol a kind spoils, 4096 where none.
-fn place_of(kind: ReceiveKind, symbol: &[u16; SYMBOL]) -> usize {
+// Which cell of the symbol a kind spoils: the lowest such; 4096 where none.
+fn place_of(kind: ReceiveKind, symbol: &[u16; SYMBOL]) -> usize
+    ensures { result ≡ first_of (λ k. is_spoiled kind (get_or symbol.now k 0)) 4096 }
+{
     match kind {
         ReceiveKind::PlaceholderSpoiled => samples::inputs::first_placeholder(symbol),
         ReceiveKind::CellTooHigh => samples::inputs::first_data(symbol),
